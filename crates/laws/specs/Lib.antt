@@ -1,0 +1,4 @@
+pub mod Circle
+pub mod Whole
+pub mod Pixels
+pub mod Patterns

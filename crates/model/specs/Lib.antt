@@ -1,0 +1,11 @@
+pub mod Choice
+pub mod Bits
+pub mod Limits
+pub mod Registers
+pub mod Formats
+pub mod Ring
+pub mod Pixel
+pub mod Raster
+pub mod Pattern
+pub mod Completion
+pub mod Cases
