@@ -16,6 +16,11 @@ formatOf code =
     else if code =? 0b1000 then Bytes 4
     else Refused
 
+-- the bytes a pixel that a decision gives; nothing reads them of a format that is refused
+abbrev pub depthOf : Format → ℕ
+depthOf (Bytes n) = n
+depthOf Refused = 0
+
 -- a number of bytes that a format can give: what is shown of pixels is shown over it
 pub data Depth : ℕ → Type 0 where
   one : Depth 1

@@ -8,4 +8,13 @@ pub mod Pixel
 pub mod Raster
 pub mod Pattern
 pub mod Completion
+pub mod Bounds
+pub mod BltPixel
+pub mod VectorPixel
+pub mod Command
+pub mod Judging
+pub mod Unit
+pub mod Calls
+pub mod Course
+pub mod Steps
 pub mod Cases

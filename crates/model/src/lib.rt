@@ -6,12 +6,17 @@ pub enum Format {
     Refused,
 }
 
+// The kinds of command that are carried.
+pub enum Kind {
+    Blt,
+    Vector,
+}
+
 // The place in a command that is being drawn: none, or the command's kind and how many of its pixels are drawn already.
 // Everything else of the place follows from the registers.
 pub enum Place {
     Idle,
-    Blt(usize),
-    Vector(usize),
+    Drawing(Kind, usize),
 }
 
 // The engine state without the write pointer. One unit of work looks at this, and never at the write pointer.
@@ -58,4 +63,63 @@ pub enum Reply {
 pub struct Answer {
     pub state: State,
     pub reply: Reply,
+}
+
+// A BLT as its registers describe it: what its pixels read.
+pub struct Blt {
+    // bytes a pixel; size in pixels
+    pub depth: usize,
+    pub width: usize,
+    pub height: usize,
+    // X negative, Y negative
+    pub left: bool,
+    pub up: bool,
+    // destination
+    pub offset: usize,
+    pub stride: usize,
+    // source: whether it is frame memory, where it lies there, and the value where it is not
+    pub reads: bool,
+    pub srcoffset: usize,
+    pub srcstride: usize,
+    pub foreground: u32,
+    // raster operation
+    pub code: u32,
+    // pattern: mono or solid, with transparency, its colours and data, and the row and column of the first pixel
+    pub mono: bool,
+    pub transparent: bool,
+    pub color0: u32,
+    pub color1: u32,
+    pub data0: u32,
+    pub data1: u32,
+    pub row: usize,
+    pub column: usize,
+}
+
+// A vector as its registers describe it.
+pub struct Vector {
+    // bytes a pixel; length in pixels
+    pub depth: usize,
+    pub length: usize,
+    // destination
+    pub offset: usize,
+    pub stride: usize,
+    // error terms
+    pub axial: i16,
+    pub diagonal: i16,
+    pub initial: i16,
+    // Y is the major axis; the major and the minor direction are positive
+    pub ymajor: bool,
+    pub majorup: bool,
+    pub minorup: bool,
+    // raster operation, and the values of source and pattern
+    pub code: u32,
+    pub foreground: u32,
+    pub color: u32,
+}
+
+// Where a pixel of a vector lies: what is added to the destination offset and what is taken away, and the error there.
+pub struct Spot {
+    pub plus: usize,
+    pub minus: usize,
+    pub error: i16,
 }

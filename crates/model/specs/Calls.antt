@@ -1,0 +1,174 @@
+-- The calls: setup, publish, run, restart and asking for room, with the state, frame memory and answer of each (document 01,
+-- Refusal numbers).
+use Prim.Native.Nat.{ℕ, _-_}
+use mathlib.Core.Bool.{Bool, true, false, not, _&&_, _||_}
+use mathlib.Core.List.{List}
+use lib.ListN.{length, replicate}
+use Rattle.model.specs.Choice.{_<?_, _≤?_, _=?_, if_then_else_}
+use Rattle.model.specs.Limits.{ringLeast, ringMost, frameMost}
+use Rattle.model.specs.Registers.{registerCount}
+use Rattle.model.specs.Ring.{room, publishRefusal}
+use Rattle.model.specs.Judging.{judge}
+use Rattle.model.specs.Unit.{Machine, Done, drawing, pixelCount, possible, units}
+use Rattle.model.specs.declared.Core.{Core}
+use Rattle.model.specs.declared.State.{State}
+use Rattle.model.specs.declared.Place.{Place}
+use Rattle.model.specs.declared.Place.the-variants.{Idle, Drawing}
+use Rattle.model.specs.declared.RunWord.{RunWord}
+use Rattle.model.specs.declared.RunWord.the-variants.{Stopped, Waiting, Spent}
+use Rattle.model.specs.declared.Reply.{Reply}
+use Rattle.model.specs.declared.Reply.the-variants.{Refused, Done as Accepted, Ran}
+use Rattle.model.specs.declared.Answer.{Answer}
+
+-- ---- what a reply says, as document 01 words it
+
+-- the number: "Accepted, each answers 0"; "a refused call answers its number"
+abbrev pub numberOf : Reply → ℕ
+numberOf (Refused number) = number
+numberOf (Accepted room) = 0
+numberOf (Ran word units room) = 0
+
+-- "units (0 except from a run)"; a refused call answers "units 0"
+abbrev pub unitsOf : Reply → ℕ
+unitsOf (Refused number) = 0
+unitsOf (Accepted room) = 0
+unitsOf (Ran word units room) = units
+
+-- "the room after it"; a refused call answers "room 0"
+abbrev pub roomOf : Reply → ℕ
+roomOf (Refused number) = 0
+roomOf (Accepted room) = room
+roomOf (Ran word units room) = room
+
+-- ---- row 3
+
+-- 1 and 2: the lengths
+abbrev pub badRing : ℕ → Bool
+badRing ringlength = ringlength <? ringLeast || ringMost <? ringlength
+
+abbrev pub badFrame : ℕ → Bool
+badFrame framelength = framelength =? 0 || frameMost <? framelength
+
+-- "neither 0 nor one of 21 and above in this table"
+abbrev pub badStop : ℕ → Bool
+badStop stop = not (stop =? 0) && (stop <? 21 || 28 <? stop)
+
+-- "a stop together with a command in progress, or a command in progress that judging would refuse or whose place isn't one
+-- of its pixels as reached by its own steps"
+abbrev pub badPlace : Core → Place → Bool
+badPlace c Idle = false
+badPlace c (Drawing kind k) =
+    not (c .stop =? 0)
+    || not (judge kind (c .registers) (c .framelength) =? 0)
+    || pixelCount kind (c .registers) ≤? k
+
+-- 3: "state unfit"
+unfoldable pub unfit : State → Bool
+unfit s =
+    badRing (s .core .ringlength) || badFrame (s .core .framelength)
+    || s .core .ringlength ≤? s .core .read || s .core .ringlength ≤? s .write
+    || badStop (s .core .stop) || badPlace (s .core) (s .core .place)
+
+-- ---- the calls
+
+-- "the room after it"
+abbrev pub roomAfter : State → ℕ
+roomAfter s = room (s .core .ringlength) (s .core .read) (s .write)
+
+abbrev pub accepted : State → Answer
+accepted s = record { state = s; reply = Accepted (roomAfter s) }
+
+abbrev pub refused : State → ℕ → Answer
+refused s number = record { state = s; reply = Refused number }
+
+-- "After setup all registers, pointers and the completion number are zero", and nothing is in progress
+abbrev pub freshState : ℕ → ℕ → State
+freshState ringlength framelength = record {
+  core = record {
+    registers = replicate registerCount 0;
+    read = 0;
+    ringlength = ringlength;
+    framelength = framelength;
+    completion = 0;
+    stop = 0;
+    place = Idle;
+  };
+  write = 0;
+}
+
+unfoldable pub setup : ℕ → ℕ → Answer
+setup ringlength framelength =
+    if badRing ringlength then refused (freshState 0 0) 1
+    else if badFrame framelength then refused (freshState 0 0) 2
+    else accepted (freshState ringlength framelength)
+
+-- an accepted publishing moves the write pointer alone
+abbrev pub withWrite : State → ℕ → State
+withWrite s p = record { core = s .core; write = p }
+
+unfoldable pub publish : State → ℕ → Answer
+publish s p =
+    let number = publishRefusal (s .core .ringlength) (s .core .read) (s .write) p in
+    if unfit s then refused s 3
+    else if number =? 0 then accepted (withWrite s p)
+    else refused s number
+
+-- "Restart clears the stop number and moves read to write; all else stays."
+abbrev pub restarted : State → State
+restarted s = record {
+  core = record {
+    registers = s .core .registers;
+    read = s .write;
+    ringlength = s .core .ringlength;
+    framelength = s .core .framelength;
+    completion = s .core .completion;
+    stop = 0;
+    place = s .core .place;
+  };
+  write = s .write;
+}
+
+unfoldable pub restart : State → Answer
+restart s =
+    if unfit s then refused s 3
+    else if s .core .stop =? 0 then refused s 7
+    else accepted (restarted s)
+
+unfoldable pub askRoom : State → Answer
+askRoom s = if unfit s then refused s 3 else accepted s
+
+-- "stopped, if a stop number stands; else waiting, if no further unit can be done; else spent"
+unfoldable pub runWord : List ℕ → State → RunWord
+runWord ring s =
+    if not (s .core .stop =? 0) then Stopped
+    else if not (possible ring (s .core) (s .write)) then Waiting
+    else Spent
+
+-- the number that refuses a run, or 0
+unfoldable pub runRefusal : List ℕ → State → List ℕ → ℕ
+runRefusal ring s frame =
+    if unfit s then 3
+    else if not (length ring =? s .core .ringlength) || not (length frame =? s .core .framelength) then 4
+    else 0
+
+-- the units of an accepted run, and the state after them
+unfoldable pub runUnits : List ℕ → State → List ℕ → ℕ → Done
+runUnits ring s frame budget = units ring (s .write) budget 0 (record { core = s .core; frame = frame })
+
+abbrev pub stateAfter : State → Done → State
+stateAfter s done = record { core = done .machine .core; write = s .write }
+
+unfoldable pub ranAnswer : List ℕ → State → Done → Answer
+ranAnswer ring s done = record {
+  state = stateAfter s done;
+  reply = Ran (runWord ring (stateAfter s done)) (done .used) (roomAfter (stateAfter s done));
+}
+
+unfoldable pub run : List ℕ → State → List ℕ → ℕ → Answer
+run ring s frame budget =
+    if runRefusal ring s frame =? 0 then ranAnswer ring s (runUnits ring s frame budget)
+    else refused s (runRefusal ring s frame)
+
+unfoldable pub runFrame : List ℕ → State → List ℕ → ℕ → List ℕ
+runFrame ring s frame budget =
+    if runRefusal ring s frame =? 0 then runUnits ring s frame budget .machine .frame else frame
