@@ -2,3 +2,6 @@ pub mod Circle
 pub mod Whole
 pub mod Pixels
 pub mod Patterns
+pub mod Units
+pub mod Fit
+pub mod Sound
