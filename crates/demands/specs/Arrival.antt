@@ -2,26 +2,24 @@
 -- could be done with the final pointer in.
 use Prim.Native.Nat.{ℕ, zero, suc, _+_, _-_, _%_, _≤_, _<_}
 use mathlib.Core.Path.{_≡_, refl, sym, ap, _∙_}
-use mathlib.Core.Bool.{Bool, true, false, not, _&&_, _||_}
-use mathlib.Core.Logic.{_⊎_, inl, inr, ⊎-elim}
+use mathlib.Core.Bool.{Bool, true, false, not, _||_}
+use mathlib.Core.Logic.{⊎-elim}
 use mathlib.Core.List.{List, [], _∷_}
 use native.Mathlib.Omega.{arith}
-use native.Mathlib.Nat.{add-zero, mod-lt, mod-self, mod-eq-of-lt}
-use lib.ListN.{length, getD, set}
-use borrow.Author.Tests.{leb-true, eqb-true, eqb-false, eq-eqb, ne-eqb, not-true, not-false}
+use native.Mathlib.Nat.{add-zero, mod-lt, mod-self}
+use lib.ListN.{length, getD}
+use borrow.Author.Tests.{leb-true, eqb-true, eqb-false, not-true}
 use Rattle.model.specs.Choice.{_≤?_, _=?_, if_then_else_, both, either, not-both, or-left, or-right}
-use Rattle.model.specs.Bits.{set?}
 use Rattle.model.specs.Ring.{distance, waiting, wordAt, distance-lt}
 use Rattle.model.specs.Command.{kindOf, draws, wordRegisters, commandLength, returns, headerRefusal, whole, loadWords, loaded, readAfter}
-use Rattle.model.specs.Judging.{judge}
-use Rattle.model.specs.Unit.{Machine, Done, headerAt, loadedAt, commandRefusal, ready, stopped, loadedCore, drawnCore, drawPixel, unit, drawing, possible, units}
+use Rattle.model.specs.Unit.{Machine, Done, headerAt, loadedAt, commandRefusal, ready, stopped, loadedCore, drawnCore, unit, drawing, possible, units}
 use Rattle.model.specs.Steps.{unit-loads, unit-refuses, unit-draws, possible-later}
 use Rattle.model.specs.declared.Core.{Core}
 use Rattle.model.specs.declared.Kind.{Kind}
 use Rattle.model.specs.declared.Place.{Place}
 use Rattle.model.specs.declared.Place.the-variants.{Idle, Drawing}
 use Rattle.laws.specs.Circle.{distance-sum, distance-next}
-use Rattle.laws.specs.Units.{done, units-zero, units-stop, units-step}
+use Rattle.laws.specs.Units.{units-zero, units-stop, units-step}
 use Rattle.laws.specs.Fit.{accepted-header}
 
 -- two rings of n words have the same words from o up to w

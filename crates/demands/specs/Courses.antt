@@ -1,17 +1,15 @@
 -- Performing a list of calls is the plain course, whatever the calls.
 use Prim.Native.Nat.{ℕ, zero, suc, _+_}
 use mathlib.Core.Path.{_≡_, refl, sym, ap, _∙_}
-use mathlib.Core.Bool.{Bool, true, false, not, _&&_, _||_}
+use mathlib.Core.Bool.{Bool, true, false}
 use mathlib.Core.List.{List, [], _∷_}
 use native.Mathlib.Nat.{add-zero}
 use lib.ListN.{length}
-use borrow.Author.Tests.{eq-eqb}
 use Rattle.model.specs.Choice.{_<?_, _≤?_, _=?_, if_then_else_}
 use Rattle.model.specs.Ring.{waiting, distance, publishRefusal}
 use Rattle.model.specs.Unit.{Machine, Done, unit, possible, units}
-use Rattle.model.specs.Calls.{unfit, publish, restart, askRoom, run, runFrame, runRefusal, runUnits, ranAnswer, unitsOf, refused, accepted, withWrite, restarted}
+use Rattle.model.specs.Calls.{unfit, publish, restart, askRoom, run, runFrame, runRefusal, runUnits, ranAnswer}
 use Rattle.model.specs.Course.{Call, publishing, running, asking, restarting, Lent, Standing, oneUnit, courseUnits, courseCall, course}
-use Rattle.model.specs.declared.State.{State}
 use Rattle.laws.specs.Units.{units-zero, units-stop, units-step, units-shift}
 use Rattle.laws.specs.Sound.{machineOf}
 use Rattle.demands.specs.Perform.{perform, performs}

@@ -2,14 +2,13 @@
 -- that of publishing all at once. One theorem about every list of calls.
 use Prim.Native.Nat.{ℕ, zero, suc, _+_, _-_, _≤_, _<_}
 use mathlib.Core.Path.{_≡_, refl, sym, ap, _∙_}
-use mathlib.Core.Bool.{Bool, true, false, not, _&&_, _||_}
+use mathlib.Core.Bool.{Bool, true, false, not, _&&_}
 use mathlib.Core.Logic.{_⊎_, inl, inr, ⊎-elim}
 use mathlib.Core.List.{List, [], _∷_, map}
 use native.Mathlib.Omega.{arith}
-use native.Mathlib.Nat.{add-zero, zero-add}
 use lib.ListN.{length, replicate}
 use lib.Dec.{leb}
-use borrow.Author.Tests.{leb-true, leb-false, le-leb, ltb-true, eqb-true, eqb-false, eq-eqb, not-false, not-true}
+use borrow.Author.Tests.{leb-true, leb-false, ltb-true, eqb-true, eqb-false, eq-eqb, not-true}
 use Rattle.model.specs.Choice.{_<?_, _≤?_, _=?_, if_then_else_, both}
 use Rattle.model.specs.Ring.{distance, waiting, publishRefusal, empty}
 use Rattle.model.specs.Unit.{Machine, Done, possible, units}
@@ -18,14 +17,13 @@ use Rattle.model.specs.Course.{Call, publishing, running, asking, restarting, L
 use Rattle.model.specs.declared.Core.{Core}
 use Rattle.model.specs.declared.State.{State}
 use Rattle.model.specs.declared.Answer.{Answer}
-use Rattle.model.specs.declared.RunWord.{RunWord}
 use Rattle.model.specs.declared.RunWord.the-variants.{Stopped, Waiting, Spent}
 use Rattle.laws.specs.Units.{done, units-zero, units-stop, units-add}
 use Rattle.laws.specs.Fit.{Fit, fit-parts, parts-fit, possible-running}
 use Rattle.laws.specs.Sound.{Sound, machineOf, sound-units}
 use Rattle.demands.specs.Perform.{perform, performs, lent, start}
 use Rattle.demands.specs.Courses.{standing, course-units, perform-course, performs-course}
-use Rattle.demands.specs.Arrival.{Agree, OnRun, Taken, units-taken}
+use Rattle.demands.specs.Arrival.{Agree, OnRun, units-taken}
 
 -- ---- the statement
 
@@ -407,11 +405,11 @@ module _ (all : List ℕ) (s : State) (frame : List ℕ) (final : ℕ) (fixed : 
             replicate (y .sum) 1,
             budgets-ones (y .sum),
             (let e : atOnce all s frame final (replicate (y .sum) 1) ≡ y =
-            at-once (replicate (y .sum) 1)
-            ∙ ap (λ (n : ℕ). standing final (units all final n 0 m)) (total-ones (y .sum))
-            ∙ ap (standing final) (h .plain)
-            ∙ ap (λ (x : ℕ). standing x (done (machineOf (y .state) (y .frame)) (y .sum))) (sym w) in
-            rw e r),
+                at-once (replicate (y .sum) 1)
+                ∙ ap (λ (n : ℕ). standing final (units all final n 0 m)) (total-ones (y .sum))
+                ∙ ap (standing final) (h .plain)
+                ∙ ap (λ (x : ℕ). standing x (done (machineOf (y .state) (y .frame)) (y .sum))) (sym w) in
+                rw e r),
           ),
         );
   }
@@ -422,8 +420,7 @@ demand3-fed all s frame final calls fixed accepted along =
     let f = fit-parts s (fixed .state-fit) in
     let p = published s final accepted in
     let first : So all s frame final (start s frame) =
-    record { on = on-start s final f p; plain = units-zero all final 0 (machineOf s frame) } in
-    (
+    record { on = on-start s final f p; plain = units-zero all final 0 (machineOf s frame) } in (
       performs-course calls (start s frame),
       arrived all s frame final fixed accepted (performs calls (start s frame))
           (so-calls all s frame final calls (start s frame) (fixed .ring-is) first along),

@@ -1,20 +1,20 @@
 -- What a fit state gives, and that every unit leaves a fit state.
-use Prim.Native.Nat.{ℕ, zero, suc, _+_, _*_, _%_, _≤_, _<_}
-use mathlib.Core.Path.{_≡_, refl, sym, ap, _∙_}
-use mathlib.Core.Bool.{Bool, true, false, not, _&&_, _||_}
-use mathlib.Core.Logic.{_⊎_, inl, inr, ⊎-elim}
+use Prim.Native.Nat.{ℕ, zero, suc, _+_, _%_, _≤_, _<_}
+use mathlib.Core.Path.{_≡_, refl}
+use mathlib.Core.Bool.{Bool, true, false, not, _&&_}
+use mathlib.Core.Logic.{_⊎_, inl, inr}
 use mathlib.Core.List.{List}
 use native.Mathlib.Omega.{arith}
 use native.Mathlib.Nat.{mod-lt, mul-pos}
-use borrow.Author.Tests.{leb-true, leb-false, le-leb, lt-leb, ltb-false, le-ltb, eqb-true, eqb-false, eq-eqb, ne-eqb, not-true, not-false}
-use Rattle.model.specs.Choice.{_<?_, _≤?_, _=?_, if_then_else_, true-or-false, not-both, both, either, neither}
+use borrow.Author.Tests.{leb-false, lt-leb, ltb-false, le-ltb, eqb-true, eqb-false, eq-eqb, ne-eqb, not-false}
+use Rattle.model.specs.Choice.{_<?_, _≤?_, _=?_, if_then_else_, both, neither}
 use Rattle.model.specs.Registers.{width, height, vectorLength}
 use Rattle.model.specs.Limits.{ringLeast, ringMost, frameMost}
 use Rattle.model.specs.Command.{kindOf, draws, commandLength, returns, headerRefusal, badHeader, badReturn, readAfter}
 use Rattle.model.specs.Judging.{judge, row23, row24, row25, row26, row27, row28}
 use Rattle.model.specs.BltPixel.{bltOf}
 use Rattle.model.specs.VectorPixel.{vectorOf}
-use Rattle.model.specs.Unit.{Machine, headerAt, loadedAt, commandRefusal, stopped, loadedCore, drawnCore, pixelCount, unit, drawing, possible, ready}
+use Rattle.model.specs.Unit.{Machine, headerAt, loadedAt, commandRefusal, stopped, loadedCore, drawnCore, pixelCount, unit, possible}
 use Rattle.model.specs.Steps.{unit-loads, unit-refuses, unit-draws}
 use Rattle.model.specs.Calls.{badRing, badFrame, badStop, badPlace, unfit}
 use Rattle.model.specs.declared.Core.{Core}

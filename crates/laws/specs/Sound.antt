@@ -1,18 +1,16 @@
 -- A machine that a run may be handed: its state is fit, and ring and frame memory have its lengths. Units keep it so.
 use Prim.Native.Nat.{ℕ, zero, suc, _+_}
-use mathlib.Core.Path.{_≡_, refl, sym, ap, _∙_}
+use mathlib.Core.Path.{_≡_, refl, sym, _∙_}
 use mathlib.Core.Bool.{Bool, true, false, not, _||_}
 use mathlib.Core.List.{List}
 use lib.ListN.{length}
 use borrow.Author.Tests.{eqb-true, eqb-false, eq-eqb, not-false}
 use Rattle.model.specs.Choice.{_=?_, if_then_else_, neither}
 use Rattle.model.specs.BltPixel.{bltOf, skipped, drawBlt}
-use Rattle.model.specs.VectorPixel.{vectorOf, drawVector}
-use Rattle.model.specs.Unit.{Machine, Done, commandRefusal, stopped, loadedCore, drawnCore, drawPixel, unit, possible, units}
+use Rattle.model.specs.VectorPixel.{drawVector}
+use Rattle.model.specs.Unit.{Machine, commandRefusal, stopped, loadedCore, drawnCore, drawPixel, unit, possible, units}
 use Rattle.model.specs.Steps.{unit-loads, unit-refuses, unit-draws}
 use Rattle.model.specs.Calls.{unfit, runRefusal}
-use Rattle.model.specs.declared.Blt.{Blt}
-use Rattle.model.specs.declared.Core.{Core}
 use Rattle.model.specs.declared.State.{State}
 use Rattle.model.specs.declared.Kind.{Kind}
 use Rattle.model.specs.declared.Kind.the-variants.{Blt as BltKind, Vector as VectorKind}

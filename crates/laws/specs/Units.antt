@@ -1,11 +1,10 @@
 -- Units one after the other: none, one more, sums of budgets, and n pixels of one command at once.
-use Prim.Native.Nat.{ℕ, zero, suc, _+_, _≤_, _<_}
-use mathlib.Core.Path.{_≡_, refl, sym, ap, _∙_}
+use Prim.Native.Nat.{ℕ, zero, suc, _+_}
+use mathlib.Core.Path.{_≡_, refl, sym}
 use mathlib.Core.Bool.{Bool, true, false}
 use mathlib.Core.List.{List}
 use native.Mathlib.Omega.{arith}
-use native.Mathlib.Nat.{add-zero, zero-add, suc-add, add-suc}
-use Rattle.model.specs.Choice.{if_then_else_}
+use native.Mathlib.Nat.{zero-add, suc-add}
 use Rattle.model.specs.Unit.{Machine, Done, unit, possible, units}
 
 abbrev pub done : Machine → ℕ → Done

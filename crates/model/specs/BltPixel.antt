@@ -1,6 +1,6 @@
 -- "A BLT pixel" (document 01): the pixels of a BLT, in the order in which they are drawn.
-use Prim.Native.Nat.{ℕ, zero, suc, _+_, _*_, _/_, _%_}
-use mathlib.Core.Bool.{Bool, true, false, _&&_}
+use Prim.Native.Nat.{ℕ, _+_, _*_, _/_, _%_}
+use mathlib.Core.Bool.{Bool, _&&_}
 use mathlib.Core.List.{List}
 use Rattle.model.specs.Choice.{_=?_, if_then_else_}
 use Rattle.model.specs.Registers.{word, SRC-COLOR-FG, PAT-COLOR-0, PAT-COLOR-1, PAT-DATA-0, PAT-DATA-1, formatCode, patternTransparency, patternMode, rasterCode, patternRow, patternColumn, destinationOffset, sourceOffset, sourceStride, destinationStride, width, height, xNegative, yNegative, sourceSelect}

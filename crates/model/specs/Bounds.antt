@@ -1,7 +1,7 @@
 -- Where pixels lie. "Positions are signed whole numbers, never reduced": a position is kept as two natural numbers, what is
 -- added to the offset and what is taken away from it.
 use Prim.Native.Nat.{ℕ, zero, suc, _+_, _-_}
-use mathlib.Core.Bool.{Bool, true, false, _||_}
+use mathlib.Core.Bool.{Bool, false, _||_}
 use Rattle.model.specs.Choice.{_<?_, _≤?_, if_then_else_}
 
 -- "further, or back if .. is negative": what n bytes along an axis add, and what they take away

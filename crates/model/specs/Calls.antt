@@ -1,7 +1,7 @@
 -- The calls: setup, publish, run, restart and asking for room, with the state, frame memory and answer of each (document 01,
 -- Refusal numbers).
-use Prim.Native.Nat.{ℕ, _-_}
-use mathlib.Core.Bool.{Bool, true, false, not, _&&_, _||_}
+use Prim.Native.Nat.{ℕ}
+use mathlib.Core.Bool.{Bool, false, not, _&&_, _||_}
 use mathlib.Core.List.{List}
 use lib.ListN.{length, replicate}
 use Rattle.model.specs.Choice.{_<?_, _≤?_, _=?_, if_then_else_}
@@ -9,7 +9,7 @@ use Rattle.model.specs.Limits.{ringLeast, ringMost, frameMost}
 use Rattle.model.specs.Registers.{registerCount}
 use Rattle.model.specs.Ring.{room, publishRefusal}
 use Rattle.model.specs.Judging.{judge}
-use Rattle.model.specs.Unit.{Machine, Done, drawing, pixelCount, possible, units}
+use Rattle.model.specs.Unit.{Done, pixelCount, possible, units}
 use Rattle.model.specs.declared.Core.{Core}
 use Rattle.model.specs.declared.State.{State}
 use Rattle.model.specs.declared.Place.{Place}

@@ -2,7 +2,7 @@
 -- where the marked ones leave room, and with the words of a released display driver.
 use Prim.Native.Nat.{ℕ, _/_, _%_, _^_}
 use mathlib.Core.Path.{_≡_, refl}
-use mathlib.Core.Bool.{Bool, true, false}
+use mathlib.Core.Bool.{true, false}
 use mathlib.Core.List.{List, [], _∷_, _++_, map}
 use lib.ListN.{replicate, set}
 use Rattle.model.specs.Formats.{formatOf}
@@ -18,9 +18,7 @@ use Rattle.model.specs.Judging.{judge}
 use Rattle.model.specs.Completion.{retired}
 use Rattle.model.specs.Unit.{commandRefusal, ready, stopped, loadedCore, pixelCount, drawPixel, drawnCore, unitAt, unit, possible, units}
 use Rattle.model.specs.Calls.{unfit, setup, publish, runWord, runRefusal, runUnits, ranAnswer, run, runFrame}
-use Rattle.model.specs.declared.Core.{Core}
 use Rattle.model.specs.declared.State.{State}
-use Rattle.model.specs.declared.Kind.{Kind}
 use Rattle.model.specs.declared.Kind.the-variants.{Blt, Vector}
 use Rattle.model.specs.declared.Place.{Place}
 use Rattle.model.specs.declared.Place.the-variants.{Idle, Drawing}

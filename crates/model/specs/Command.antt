@@ -1,7 +1,7 @@
 -- Commands in the ring: header, kind, length, wholeness, and the loading of the enabled words (document 01, The ring; 000,
 -- Tables 6-8, 6-9 and 6-12).
-use Prim.Native.Nat.{ℕ, suc, _+_, _-_, _%_}
-use mathlib.Core.Bool.{Bool, true, false, not, _&&_, _||_}
+use Prim.Native.Nat.{ℕ, _+_, _-_, _%_}
+use mathlib.Core.Bool.{Bool, true, not, _&&_, _||_}
 use mathlib.Core.List.{List, [], _∷_}
 use lib.ListN.{length, set}
 use Rattle.model.specs.Choice.{_<?_, _≤?_, _=?_, if_then_else_}

@@ -2,14 +2,13 @@
 -- fed the start and the calls with their positions and budgets, no answers. It holds and hands on its own engine state,
 -- frame memory and a sum that begins at 0."
 use Prim.Native.Nat.{ℕ, zero, suc, _+_}
-use mathlib.Core.Bool.{Bool, true, false, not, _&&_, _||_}
+use mathlib.Core.Bool.{not, _&&_}
 use mathlib.Core.List.{List, [], _∷_}
 use lib.ListN.{length}
 use Rattle.model.specs.Choice.{_<?_, _≤?_, _=?_, if_then_else_}
 use Rattle.model.specs.Ring.{waiting, distance}
-use Rattle.model.specs.Unit.{Machine, unit, possible}
+use Rattle.model.specs.Unit.{unit, possible}
 use Rattle.model.specs.Calls.{unfit, restarted, withWrite}
-use Rattle.model.specs.declared.Core.{Core}
 use Rattle.model.specs.declared.State.{State}
 
 -- "The calls are publish, run, asking for room and restart"

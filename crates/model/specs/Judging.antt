@@ -1,6 +1,6 @@
 -- Refusals 23 to 28: what a command that draws is judged by, on the registers as they would be after loading. "Where several
 -- apply the lowest wins."
-use Prim.Native.Nat.{ℕ, _*_}
+use Prim.Native.Nat.{ℕ}
 use mathlib.Core.Bool.{Bool, true, false, not, _&&_, _||_}
 use mathlib.Core.List.{List}
 use lib.IntN.{pos}

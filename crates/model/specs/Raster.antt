@@ -3,7 +3,7 @@ use Prim.Native.Nat.{ℕ, zero, suc, _+_, _*_, _/_, _%_, _^_, _<_}
 use mathlib.Core.Path.{_≡_, refl, sym, ap, _∙_}
 use native.Mathlib.Omega.{arith}
 use native.Mathlib.Nat.{mod-lt, mod-one, div-one, pow-suc}
-use lib.Bits.{bitXor, differ, xor-shr, xor-mod}
+use lib.Bits.{bitXor, xor-shr, xor-mod}
 use Rattle.model.specs.Bits.{bit, by-bits, bit-suc, low-split}
 
 -- the bit of the code that one bit each of pattern, source and destination choose

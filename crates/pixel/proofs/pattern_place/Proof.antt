@@ -1,6 +1,5 @@
 use native.Mathlib.Omega.{arith}
 use Rattle.model.specs.Pattern.{patternPlace}
-use mathlib.Core.Path.{refl}
 use borrow.Author.Needs.{needs}
 use Rattle.pixel.proofs.pattern_place.Statement.{statement}
 use Rattle.pixel.proofs.pattern_place.Tie as tie
