@@ -26,7 +26,7 @@ use Rattle.model.specs.declared.Place.the-variants.{Idle, Drawing}
 
 -- ---- row 3, by its parts
 
-positive : (n : ℕ) → n =? 0 ≡ false → 0 < n
+pub positive : (n : ℕ) → n =? 0 ≡ false → 0 < n
 positive zero h = absurd (eqb-false 0 0 h refl)
 positive (suc n) h = omega arith
 

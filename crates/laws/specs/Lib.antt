@@ -6,3 +6,5 @@ pub mod Some
 pub mod Units
 pub mod Fit
 pub mod Sound
+pub mod Order
+pub mod Ranges
