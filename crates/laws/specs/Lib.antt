@@ -8,3 +8,4 @@ pub mod Fit
 pub mod Sound
 pub mod Order
 pub mod Ranges
+pub mod Spans

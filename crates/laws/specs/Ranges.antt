@@ -1,18 +1,18 @@
 -- The ranges that the registers' fields give, and what judging accepts, as facts on a decoded BLT or vector.
 use Prim.Native.Nat.{ℕ, _<_}
 use mathlib.Core.Path.{_≡_, refl}
-use mathlib.Core.Bool.{Bool, true, false, not, _||_}
+use mathlib.Core.Bool.{Bool, true, false, _||_}
 use mathlib.Core.List.{List}
 use native.Mathlib.Omega.{arith}
 use native.Mathlib.Nat.{mod-lt}
 use lib.IntN.{pos}
 use lib.Signed.{ltZ}
 use Rattle.model.specs.Choice.{_=?_, if_then_else_, not-both, both, neither}
-use Rattle.model.specs.Registers.{formatCode, width, height, vectorLength, alphaEnable}
+use Rattle.model.specs.Registers.{formatCode, width, height, vectorLength}
 use Rattle.model.specs.Formats.{Depth, formatOf, depthOf}
 use Rattle.model.specs.BltPixel.{bltOf, rectangleOutside}
 use Rattle.model.specs.VectorPixel.{vectorOf, vectorOutside}
-use Rattle.model.specs.Judging.{judge, refusedFormat}
+use Rattle.model.specs.Judging.{judge, refusedFormat, row23, row25, row26}
 use Rattle.model.specs.declared.Blt.{Blt}
 use Rattle.model.specs.declared.Vector.{Vector}
 use Rattle.model.specs.declared.Format.the-variants.{Bytes, Refused}
@@ -65,58 +65,68 @@ format-depth code = go (code =? 0) (code =? 4 || code =? 5 || code =? 6) (code =
     go false false true e = Depth.four
     go false false false e = absurd (not-both true refl e)
 
-pub accepted-depth : (registers : List ℕ) → refusedFormat (formatOf (formatCode registers)) || not (alphaEnable registers =? 0) ≡ false
+accepted-depth : (registers : List ℕ) → row23 registers ≡ false
     → Depth (depthOf (formatOf (formatCode registers)))
 accepted-depth registers e = format-depth (formatCode registers) (neither (refusedFormat (formatOf (formatCode registers))) _ e .0)
 
-module _ (registers : List ℕ) (size : ℕ) where
-  pub fit-blt : judge BltKind registers size ≡ 0 → FitBlt size (bltOf registers)
+-- once 23 and 25 do not apply, both rectangles of a BLT are in range
+module _ (registers : List ℕ) where
+  ranged : (offset stride : ℕ) → row23 registers ≡ false → row25 registers BltKind ≡ false → offset < 16_777_216 → stride < 65_536
+      → Ranged (bltOf registers) offset stride
   unfolding bltOf
-  fit-blt e =
-      let r = judged-rows BltKind registers size e in
-      let d = accepted-depth registers (r .no-23) in
-      let n = neither (width registers =? 0) (height registers =? 0) (r .no-25) in
-      let w = positive (width registers) (n .0) in
-      let h = positive (height registers) (n .1) in
+  ranged offset stride e f o s =
+      let n = neither (width registers =? 0) (height registers =? 0) f in
       record {
-        to = record {
-          deep = d;
-          wide = w;
-          wide-most = mod-lt _ (omega arith);
-          high = h;
-          high-most = mod-lt _ (omega arith);
-          offset-most = mod-lt _ (omega arith);
-          stride-most = mod-lt _ (omega arith);
-        };
-        from = record {
-          deep = d;
-          wide = w;
-          wide-most = mod-lt _ (omega arith);
-          high = h;
-          high-most = mod-lt _ (omega arith);
-          offset-most = mod-lt _ (omega arith);
-          stride-most = mod-lt _ (omega arith);
-        };
-        inside = r .no-27;
-        source-inside = λ s. rw s at (r .no-28);
-        row-most = mod-lt _ (omega arith);
-        column-most = mod-lt _ (omega arith);
+        deep = accepted-depth registers e;
+        wide = positive (width registers) (n .0);
+        wide-most = mod-lt _ (omega arith);
+        high = positive (height registers) (n .1);
+        high-most = mod-lt _ (omega arith);
+        offset-most = o;
+        stride-most = s;
       }
 
-  pub fit-vector : judge VectorKind registers size ≡ 0 → FitVector size (vectorOf registers)
+  pub ranged-to : row23 registers ≡ false → row25 registers BltKind ≡ false
+      → Ranged (bltOf registers) (bltOf registers .offset) (bltOf registers .stride)
+  unfolding bltOf
+  ranged-to e f = ranged _ _ e f (mod-lt _ (omega arith)) (mod-lt _ (omega arith))
+
+  pub ranged-from : row23 registers ≡ false → row25 registers BltKind ≡ false
+      → Ranged (bltOf registers) (bltOf registers .srcoffset) (bltOf registers .srcstride)
+  unfolding bltOf
+  ranged-from e f = ranged _ _ e f (mod-lt _ (omega arith)) (mod-lt _ (omega arith))
+
+  -- and once 26 does not apply either, a vector is
+  pub ranged-vector : row23 registers ≡ false → row25 registers VectorKind ≡ false → row26 registers VectorKind ≡ false
+      → RangedVector (vectorOf registers)
   unfolding vectorOf
-  fit-vector e =
-      let r = judged-rows VectorKind registers size e in
-      let t = neither (ltZ (vectorOf registers .axial) (pos 0)) _ (r .no-26) in
+  ranged-vector e f g =
+      let t = neither (ltZ (vectorOf registers .axial) (pos 0)) _ g in
       record {
-        ranged = record {
-          deep = accepted-depth registers (r .no-23);
-          long = positive (vectorLength registers) (r .no-25);
-          long-most = mod-lt _ (omega arith);
-          offset-most = mod-lt _ (omega arith);
-          stride-most = mod-lt _ (omega arith);
-          axial-rises = t .0;
-          diagonal-falls = t .1;
-        };
-        inside = r .no-27;
+        deep = accepted-depth registers e;
+        long = positive (vectorLength registers) f;
+        long-most = mod-lt _ (omega arith);
+        offset-most = mod-lt _ (omega arith);
+        stride-most = mod-lt _ (omega arith);
+        axial-rises = t .0;
+        diagonal-falls = t .1;
       }
+
+-- what judging accepts
+pub fit-blt : (registers : List ℕ) (size : ℕ) → judge BltKind registers size ≡ 0 → FitBlt size (bltOf registers)
+unfolding bltOf
+fit-blt registers size e =
+    let r = judged-rows BltKind registers size e in
+    record {
+      to = ranged-to registers (r .no-23) (r .no-25);
+      from = ranged-from registers (r .no-23) (r .no-25);
+      inside = r .no-27;
+      source-inside = λ s. rw s at (r .no-28);
+      row-most = mod-lt _ (omega arith);
+      column-most = mod-lt _ (omega arith);
+    }
+
+pub fit-vector : (registers : List ℕ) (size : ℕ) → judge VectorKind registers size ≡ 0 → FitVector size (vectorOf registers)
+fit-vector registers size e =
+    let r = judged-rows VectorKind registers size e in
+    record { ranged = ranged-vector registers (r .no-23) (r .no-25) (r .no-26); inside = r .no-27 }
