@@ -8,3 +8,5 @@ pub mod Fit
 pub mod Sound
 pub mod Order
 pub mod Ranges
+pub mod Signs
+pub mod Walks
