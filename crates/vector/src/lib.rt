@@ -45,8 +45,8 @@ fn signed(x: u32) -> i16
 fn depth_of(code: u32) -> usize
     ensures { λ r. ⌜ r ≡ depthOf (formatOf code) ⌝ }
 {
-    let format = fields::format(code);
-    match format {
+    let decision = fields::format(code);
+    match decision {
         Format::Bytes(n) => n,
         Format::Refused => 0,
     }
