@@ -1,3 +1,5 @@
+use mathlib.Core.Path.{sym, ap, _∙_}
+use Rattle.model.specs.Formats.{depthOf}
 use borrow.Author.Needs.{needs}
 use Rattle.vector.proofs.depth_of.Statement.{statement}
 use Rattle.vector.proofs.depth_of.Tie as tie
@@ -19,11 +21,11 @@ enum-told c = search needs
 
 -- src/lib.rt:45:1
 returns : tie.Need-returns
-returns c = ?
+returns c = ap depthOf (sym (c .before .decision .given .1) ∙ c .before .before .before .format .ensures)
 
 -- src/lib.rt:45:1
 returns-2 : tie.Need-returns-2
-returns-2 c = ?
+returns-2 c = ap depthOf (sym (c .enum-told .given .1) ∙ c .before .before .format .ensures)
 
 pub depth-of-spec : {M : Type 1} → statement M
 depth-of-spec =

@@ -1,6 +1,12 @@
+use Prim.Native.Nat.{ℕ}
+use mathlib.Core.Path.{_≡_, refl, ap, _∙_}
+use mathlib.Core.Bool.{Bool}
+use lib.IntN.{ℤ}
+use Rattle.model.specs.Formats.{formatOf, depthOf}
+use Rattle.model.specs.declared.Vector.{Vector}
 use mir.Syntax.{w16}
 use mir.ValLaws.{toZ-ofZ}
-use Rattle.model.specs.VectorPixel.{vectorOf}
+use Rattle.model.specs.VectorPixel.{signed16, vectorOf}
 use borrow.Author.Needs.{needs}
 use Rattle.vector.proofs.vector_of.Statement.{statement}
 use Rattle.vector.proofs.vector_of.Tie as tie
@@ -83,29 +89,44 @@ array-read-t20 c = search needs
 array-read-t38 : tie.Need-array-read-t38
 array-read-t38 c = search needs
 
+-- two vectors with the same fields
+same : {depth depth′ length length′ offset offset′ stride stride′ : ℕ} {axial axial′ diagonal diagonal′ initial initial′ : ℤ}
+    {ymajor ymajor′ majorup majorup′ minorup minorup′ : Bool} {code code′ foreground foreground′ color color′ : ℕ}
+    → depth ≡ depth′
+    → length ≡ length′
+    → offset ≡ offset′
+    → stride ≡ stride′
+    → axial ≡ axial′
+    → diagonal ≡ diagonal′
+    → initial ≡ initial′
+    → ymajor ≡ ymajor′
+    → majorup ≡ majorup′
+    → minorup ≡ minorup′
+    → code ≡ code′
+    → foreground ≡ foreground′
+    → color ≡ color′
+    → _≡_ {A = Vector}
+      (record { depth = depth; length = length; offset = offset; stride = stride; axial = axial; diagonal = diagonal; initial = initial; ymajor = ymajor; majorup = majorup; minorup = minorup; code = code; foreground = foreground; color = color })
+      (record { depth = depth′; length = length′; offset = offset′; stride = stride′; axial = axial′; diagonal = diagonal′; initial = initial′; ymajor = ymajor′; majorup = majorup′; minorup = minorup′; code = code′; foreground = foreground′; color = color′ })
+same a b c d e f g h i j k l m = cc
+
 returns : tie.Need-returns
 unfolding vectorOf
-returns c = 
-    rw (
-      toZ-ofZ w16 (c .before .before .before .before .before .before .before .signed .result) (search needs),
-      toZ-ofZ w16 (c .before .before .before .before .before .signed2 .result) (search needs),
-      toZ-ofZ w16 (c .before .before .before .signed3 .result) (search needs),
-      c .before .before .before .before .before .before .before .signed .ensures,
-      c .before .before .before .before .before .signed2 .ensures,
-      c .before .before .before .signed3 .ensures,
-      c .before .before .before .before .before .before .before .before .before .before .before .before .before .depth-of .ensures,
-      c .before .before .before .before .before .before .before .before .before .before .before .before .before .before .bits .ensures .0,
-      c .before .before .before .before .before .before .before .before .before .before .before .before .bits2 .ensures .0,
-      c .before .before .before .before .before .before .before .before .before .before .before .bits3 .ensures .0,
-      c .before .before .before .before .before .before .before .before .before .before .bits4 .ensures .0,
-      c .before .before .before .before .before .before .before .before .before .bits5 .ensures .0,
-      c .before .before .before .before .before .before .before .before .bits6 .ensures .0,
-      c .before .before .before .before .before .before .bits7 .ensures .0,
-      c .before .before .before .before .bits8 .ensures .0,
-      c .before .before .is-set .ensures,
-      c .before .is-set2 .ensures,
-      c .is-set3 .ensures,
-    )
+returns c =
+    same
+    (c .before .before .before .before .before .before .before .before .before .before .before .before .before .depth-of .ensures ∙ ap (λ (x : ℕ). depthOf (formatOf x)) (c .before .before .before .before .before .before .before .before .before .before .before .before .before .before .bits .ensures .0))
+    (c .before .before .before .before .before .before .before .before .before .bits5 .ensures .0)
+    (c .before .before .before .before .before .before .before .before .before .before .before .bits3 .ensures .0)
+    (c .before .before .before .before .before .before .before .before .before .before .bits4 .ensures .0)
+    (toZ-ofZ w16 (c .before .before .before .before .before .before .before .signed .result) (search needs) ∙ c .before .before .before .before .before .before .before .signed .ensures ∙ ap signed16 (c .before .before .before .before .before .before .before .before .bits6 .ensures .0))
+    (toZ-ofZ w16 (c .before .before .before .before .before .signed2 .result) (search needs) ∙ c .before .before .before .before .before .signed2 .ensures ∙ ap signed16 (c .before .before .before .before .before .before .bits7 .ensures .0))
+    (toZ-ofZ w16 (c .before .before .before .signed3 .result) (search needs) ∙ c .before .before .before .signed3 .ensures ∙ ap signed16 (c .before .before .before .before .bits8 .ensures .0))
+    (c .before .before .is-set .ensures)
+    (c .before .is-set2 .ensures)
+    (c .is-set3 .ensures)
+    (c .before .before .before .before .before .before .before .before .before .before .before .before .bits2 .ensures .0)
+    refl
+    refl
 
 pub vector-of-spec : {M : Type 1} → statement M
 vector-of-spec =
