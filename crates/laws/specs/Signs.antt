@@ -22,13 +22,15 @@ mag-sub h a b p q = go (ltb a b) refl
     go false e = omega arith
 
 -- a number below 0 and one that is not: the sum fits
-pub rise-fits : (w : Width) (e t : ℤ) → SFits w e → SFits w t → ltZ e (pos 0) ≡ true → ltZ t (pos 0) ≡ false → SFits w (e +ℤ t)
+pub rise-fits : (w : Width) (e t : ℤ) → SFits w e → SFits w t → ltZ e (pos 0) ≡ true → ltZ t (pos 0) ≡ false
+    → SFits w (e +ℤ t)
 rise-fits w (pos m) t p q b c = absurd (omega (arith, ltb-true m 0 b))
 rise-fits w (negsuc m) (pos n) p q b c = record { sfits = mag-sub (2 ^ hbits w) n (suc m) (q .sfits) (p .sfits) }
 rise-fits w (negsuc m) (negsuc n) p q b c = absurd (not-both true refl c)
 
 -- a number that is not below 0 and one that is not above: the sum fits
-pub fall-fits : (w : Width) (e t : ℤ) → SFits w e → SFits w t → ltZ e (pos 0) ≡ false → ltZ (pos 0) t ≡ false → SFits w (e +ℤ t)
+pub fall-fits : (w : Width) (e t : ℤ) → SFits w e → SFits w t → ltZ e (pos 0) ≡ false → ltZ (pos 0) t ≡ false
+    → SFits w (e +ℤ t)
 fall-fits w (negsuc m) t p q b c = absurd (not-both true refl b)
 fall-fits w (pos m) (negsuc n) p q b c = record { sfits = mag-sub (2 ^ hbits w) m (suc n) (p .sfits) (q .sfits) }
 fall-fits w (pos m) (pos n) p q b c = record { sfits = omega (arith, ltb-false 0 n c, p .sfits) }

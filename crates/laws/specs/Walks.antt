@@ -1,5 +1,5 @@
 -- The walk along a vector: how far k steps lead.
-use Prim.Native.Nat.{ℕ, zero, suc, _+_, _*_, _≤_, _<_}
+use Prim.Native.Nat.{ℕ, zero, suc, _+_, _*_, _^_, _≤_, _<_}
 use mathlib.Core.Path.{_≡_, refl}
 use mathlib.Core.Bool.{Bool, true, false}
 use native.Mathlib.Omega.{arith}
@@ -15,8 +15,8 @@ use Rattle.laws.specs.Ranges.{RangedVector}
 
 -- a place whose two sides are far below the largest number of 64 bits: what a step asks for so that its sums fit
 pub record Near (s : Spot) : Type 0 where
-  pub plus : s .plus < 4_294_967_296
-  pub minus : s .minus < 4_294_967_296
+  pub plus : s .plus < 2 ^ 32
+  pub minus : s .minus < 2 ^ 32
 
 -- a move leads at most its bytes further on either side
 pub moved-most : (positive : Bool) (n : ℕ) (s : Spot)
@@ -64,6 +64,6 @@ unfolding spot
 spot-most v r zero = omega arith
 spot-most v r (suc k) = let h = spot-most v r k in omega (arith, step-most v r (spot v k))
 
--- the first 4,096 pixels lie near the offset
-pub spot-near : (v : Vector) (k : ℕ) {s : Spot} → RangedVector v → k ≤ 4096 → s ≡ spot v k → Near s
-spot-near v k r l e = rw e (omega (arith, spot-most v r k))
+-- so every pixel of a vector lies near the offset
+pub spot-near : (v : Vector) (k : ℕ) {s : Spot} → RangedVector v → k ≤ v .length → s ≡ spot v k → Near s
+spot-near v k r l e = rw e (omega (arith, r .long-most, spot-most v r k))

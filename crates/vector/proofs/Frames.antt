@@ -1,6 +1,6 @@
 -- The pixels of a vector in frame memory.
 use Prim.Native.Nat.{ℕ, suc, _+_, _-_, _*_, _≤_, _<_}
-use mathlib.Core.Path.{_≡_, refl, sym, _∙_}
+use mathlib.Core.Path.{_≡_, refl, sym}
 use mathlib.Core.Bool.{Bool, true, false}
 use mathlib.Core.List.{List}
 use native.Mathlib.Omega.{arith}
@@ -15,6 +15,7 @@ use Rattle.model.specs.VectorPixel.{spot, vectorOutside, vectorByte, drawVector
 use Rattle.model.specs.declared.Vector.{Vector}
 use Rattle.model.specs.declared.Spot.{Spot}
 use Rattle.laws.specs.Some.{some-not, some-at, some-none}
+use Rattle.laws.specs.Ranges.{FitVector}
 use Rattle.laws.specs.Order.{inOrder, vectorPixels}
 
 pub depth-positive : {n : ℕ} → Depth n → 0 < n
@@ -79,7 +80,8 @@ module _ (size : ℕ) (v : Vector) where
   none-outside = refl
 
   -- one pixel more
-  pub next-inside : (k : ℕ) {s : Spot} → s ≡ spot v k → someOutside k ≡ false → spotOutside s ≡ false → someOutside (k + 1) ≡ false
+  pub next-inside : (k : ℕ) {s : Spot} → s ≡ spot v k → someOutside k ≡ false → spotOutside s ≡ false
+      → someOutside (k + 1) ≡ false
   unfolding someOutside some
   next-inside k e p q = let r : spotOutside (spot v k) ≡ false = rw e at q in rw add-one (simp (p, r))
 
@@ -92,14 +94,14 @@ module _ (size : ℕ) (v : Vector) where
   unfolding outside pixelOutside someOutside
   is-inside k e h = sym (rw e at h)
 
-  -- where each pixel of a vector that 27 accepts lies
-  pub drawn-inside : (k : ℕ) {s : Spot} → Depth (v .depth) → vectorOutside size v ≡ false → k < v .length → s ≡ spot v k
+  -- where each pixel of a vector that judging accepts lies
+  pub drawn-inside : (k : ℕ) {s : Spot} → FitVector size v → k < v .length → s ≡ spot v k
       → (s .minus ≤ v .offset + s .plus) × (firstByte (v .offset) (s .plus) (s .minus) + v .depth ≤ size)
   unfolding outside pixelOutside
-  drawn-inside k d h l e =
+  drawn-inside k f l e =
       rw e
-      (pixel-facts size (v .depth) (v .offset + spot v k .plus) (spot v k .minus) d
-      (some-not (v .length) (λ k. spotOutside (spot v k)) k h l))
+      (pixel-facts size (v .depth) (v .offset + spot v k .plus) (spot v k .minus) (f .ranged .deep)
+      (some-not (v .length) (λ k. spotOutside (spot v k)) k (f .inside) l))
 
 -- ---- drawing
 

@@ -5,11 +5,10 @@ use model::Vector;
 use pixel::Operation;
 ghost use mathlib.Core.Path.{_≡_};
 ghost use mathlib.Core.Bool.{_||_};
-ghost use Prim.Native.Nat.{_+_, _*_, _≤_, _<_};
+ghost use Prim.Native.Nat.{_+_, _*_, _^_, _≤_, _<_};
 ghost use lib.ListN.{length};
 ghost use lib.IntN.{pos};
 ghost use lib.Signed.{ltZ};
-ghost use Rattle.model.specs.Bits.{field};
 ghost use Rattle.model.specs.Formats.{Depth, formatOf, depthOf};
 ghost use Rattle.model.specs.Pixel.{readPixel, storePixel};
 ghost use Rattle.model.specs.Raster.{raster};
@@ -22,12 +21,19 @@ ghost use Rattle.pixel.specs.Prepared.{Prepared};
 // ---- the registers that a vector reads
 
 const RASTER_MODE: usize = 0;
+
 const DST_OFFSET: usize = 1;
+
 const VEC_ERR: usize = 2;
+
 const STRIDE: usize = 3;
+
 const VEC_LEN: usize = 4;
+
 const SRC_COLOR_FG: usize = 5;
+
 const PAT_COLOR_0: usize = 7;
+
 const VECTOR_MODE: usize = 16;
 
 // A 16-bit field as a signed number.
@@ -128,8 +134,8 @@ fn minor_step(v: Vector) -> usize
 }
 
 // n bytes further, or back.
-fn go(positive: bool, n: usize, s: Spot) -> Spot
-    requires { ⌜ (n < 4294967296) × (s .plus < 8589934592) × (s .minus < 8589934592) ⌝ }
+fn shifted(positive: bool, n: usize, s: Spot) -> Spot
+    requires { ⌜ (n < 2 ^ 32) × (s .plus < 2 ^ 33) × (s .minus < 2 ^ 33) ⌝ }
     ensures { λ r. ⌜ r ≡ moved positive n s ⌝ }
 {
     let plus = s.plus;
@@ -160,7 +166,7 @@ fn next(v: Vector, s: Spot) -> Spot
     let diagonal = v.diagonal;
     let majorup = v.majorup;
     let minorup = v.minorup;
-    let along = go(majorup, major_step(v), s);
+    let along = shifted(majorup, major_step(v), s);
     if error < 0 {
         return Spot {
             plus: along.plus,
@@ -168,7 +174,7 @@ fn next(v: Vector, s: Spot) -> Spot
             error: error + axial,
         };
     }
-    let aside = go(minorup, minor_step(v), along);
+    let aside = shifted(minorup, minor_step(v), along);
     Spot {
         plus: aside.plus,
         minus: aside.minus,
@@ -190,7 +196,7 @@ fn start(v: Vector) -> Spot
 
 // The place of pixel k, where a vector that was left in its middle is taken up again.
 fn place(v: Vector, k: usize) -> Spot
-    requires { ⌜ (RangedVector v) × (k ≤ 4096) ⌝ }
+    requires { ⌜ (RangedVector v) × (k ≤ v .length) ⌝ }
     ensures { λ r. ⌜ r ≡ spot v k ⌝ }
 {
     let mut s = start(v);

@@ -1,3 +1,4 @@
+-- The code tests the two terms in the order of the definition.
 use mir.Syntax.{w16}
 use borrow.Author.Needs.{needs}
 use Rattle.laws.specs.Signs.{below-is, above-is}
@@ -8,10 +9,14 @@ returns : tie.Need-returns
 returns c = simp (below-is w16 (c .before .before .before .args .v .axial) (search needs) (c .if1 .taken))
 
 returns-2 : tie.Need-returns-2
-returns-2 c = simp (below-is w16 (c .before .before .before .before .args .v .axial) (search needs) (c .before .if1 .left), above-is w16 (c .before .before .before .before .args .v .diagonal) (search needs) (c .if2 .taken))
+returns-2 c =
+    let v = c .before .before .before .before .args .v in
+    simp (below-is w16 (v .axial) (search needs) (c .before .if1 .left), above-is w16 (v .diagonal) (search needs) (c .if2 .taken))
 
 returns-3 : tie.Need-returns-3
-returns-3 c = simp (below-is w16 (c .before .before .before .before .args .v .axial) (search needs) (c .before .if1 .left), above-is w16 (c .before .before .before .before .args .v .diagonal) (search needs) (c .if2 .left))
+returns-3 c =
+    let v = c .before .before .before .before .args .v in
+    simp (below-is w16 (v .axial) (search needs) (c .before .if1 .left), above-is w16 (v .diagonal) (search needs) (c .if2 .left))
 
 pub bad-terms-spec : {M : Type 1} → statement M
 bad-terms-spec = tie.close (tie.spec returns returns-2 returns-3)

@@ -1,29 +1,22 @@
+-- What a decision says of its depth.
 use mathlib.Core.Path.{sym, ap, _∙_}
 use Rattle.model.specs.Formats.{depthOf}
 use borrow.Author.Needs.{needs}
 use Rattle.vector.proofs.depth_of.Statement.{statement}
 use Rattle.vector.proofs.depth_of.Tie as tie
-use Rattle.vector.proofs.depth_of.Reads as reads
-use Rattle.vector.proofs.depth_of.Lts as lts
-use Rattle.fields.proofs.format.Reads as format-reads
 
--- src/lib.rt:48:9
 format-requires : tie.Need-format-requires
 format-requires c κs = search needs
 
--- src/lib.rt:50:23
 enum-known-decision : tie.Need-enum-known-decision
 enum-known-decision c = search needs
 
--- src/lib.rt:51:28
 enum-told : tie.Need-enum-told
 enum-told c = search needs
 
--- src/lib.rt:45:1
 returns : tie.Need-returns
 returns c = ap depthOf (sym (c .before .decision .given .1) ∙ c .before .before .before .format .ensures)
 
--- src/lib.rt:45:1
 returns-2 : tie.Need-returns-2
 returns-2 c = ap depthOf (sym (c .enum-told .given .1) ∙ c .before .before .format .ensures)
 

@@ -1,3 +1,4 @@
+-- The loop has looked at k pixels and found none outside.
 use Prim.Native.Nat.{_-_, _≤_}
 use mathlib.Core.Path.{_≡_, _∙_}
 use mathlib.Core.Bool.{false}
@@ -22,19 +23,26 @@ loop-holds : tie.Need-loop-holds Inv-loop μ-loop
 loop-holds c = (omega arith, c .start .ensures, none-outside _ _)
 
 add-sum : tie.Need-add-sum Inv-loop μ-loop
-add-sum c = omega (arith, spot-near _ (c .before .loop .k) (c .before .before .before .pre) (omega arith) (c .before .loop .inv .1))
+add-sum c = omega (arith, c .before .before .before .pre .offset-most, spot-near _ (c .before .loop .k) (c .before .before .before .pre) (omega arith) (c .before .loop .inv .1))
 
 returns : tie.Need-returns Inv-loop μ-loop
-returns c = is-outside _ _ (c .before .before .loop .k) (c .before .before .loop .inv .1) (c .before .loop-test .taken) (pixel-below _ _ _ _ (c .before .before .before .before .pre .deep) (c .if1 .taken))
+returns c =
+    let l = c .before .before .loop in
+    is-outside _ _ (l .k) (l .inv .1) (c .before .loop-test .taken) (pixel-below _ _ _ _ (c .before .before .before .before .pre .deep) (c .if1 .taken))
 
 add-if2 : tie.Need-add-if2 Inv-loop μ-loop
-add-if2 c = omega (arith, depth-most (c .before .before .before .before .pre .deep), spot-near _ (c .before .before .loop .k) (c .before .before .before .before .pre) (omega arith) (c .before .before .loop .inv .1))
+add-if2 c =
+    let p = c .before .before .before .before .pre in
+    omega (arith, p .offset-most, depth-most (p .deep), spot-near _ (c .before .before .loop .k) p (omega arith) (c .before .before .loop .inv .1))
 
 returns-2 : tie.Need-returns-2 Inv-loop μ-loop
-returns-2 c = is-outside _ _ (c .before .before .before .loop .k) (c .before .before .before .loop .inv .1) (c .before .before .loop-test .taken) (pixel-above _ _ _ _ (c .before .before .before .before .before .pre .deep) (c .before .if1 .left) (c .if2 .taken))
+returns-2 c =
+    let l = c .before .before .before .loop in
+    let h = pixel-above _ _ _ _ (c .before .before .before .before .before .pre .deep) (c .before .if1 .left) (c .if2 .taken) in
+    is-outside _ _ (l .k) (l .inv .1) (c .before .before .loop-test .taken) h
 
 next-requires : tie.Need-next-requires Inv-loop μ-loop
-next-requires c κs = (c .before .before .before .before .before .pre, spot-near _ (c .before .before .before .loop .k) (c .before .before .before .before .before .pre) (omega arith) (c .before .before .before .loop .inv .1))
+next-requires c κs = let p = c .before .before .before .before .before .pre in (p, spot-near _ (c .before .before .before .loop .k) p (omega arith) (c .before .before .before .loop .inv .1))
 
 add-k : tie.Need-add-k Inv-loop μ-loop
 add-k c = omega arith
@@ -43,7 +51,7 @@ loop-less : tie.Need-loop-less Inv-loop μ-loop
 loop-less c = omega arith
 
 loop-again : tie.Need-loop-again Inv-loop μ-loop
-loop-again c = 
+loop-again c =
     let h = c .before .before .before .before .loop .inv in (
       omega arith,
       c .next .ensures ∙ spot-next _ _ (h .1),

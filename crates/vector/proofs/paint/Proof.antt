@@ -1,3 +1,4 @@
+-- The raster operation over 32 bits serves at each depth.
 use Rattle.laws.specs.Pixels.{store-raster}
 use borrow.Author.Needs.{needs}
 use Rattle.vector.proofs.paint.Statement.{statement}

@@ -1,3 +1,4 @@
+-- A field below 32,768 is its own number; one above is 65,536 less, which both widths hold.
 use Prim.Native.Nat.{ℕ, suc, _-_, _<_}
 use mathlib.Core.Path.{_≡_}
 use native.Mathlib.Omega.{arith}
@@ -29,13 +30,13 @@ sub-result : tie.Need-sub-result
 sub-result c = rw (value (c .before .args .x) (c .before .pre)) (omega arith)
 
 cast-result-3 : tie.Need-cast-result-3
-cast-result-3 c = 
+cast-result-3 c =
     let x = c .before .args .x in
     rw (value x (c .before .pre), toZ-ofZ w32 (negsuc (65536 - suc x)) (omega arith)) (omega arith)
 
 returns-2 : tie.Need-returns-2
 unfolding signed16
-returns-2 c = 
+returns-2 c =
     let x = c .before .args .x in
     let z = negsuc (65536 - suc x) in
     rw (value x (c .before .pre), toZ-ofZ w32 z (omega arith), toZ-ofZ w16 z (omega arith))

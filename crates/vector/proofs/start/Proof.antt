@@ -1,3 +1,4 @@
+-- The first pixel lies at the offset.
 use mir.Syntax.{w16}
 use mir.ValLaws.{toZ-ofZ}
 use borrow.Author.Needs.{needs}

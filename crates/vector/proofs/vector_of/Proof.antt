@@ -1,3 +1,4 @@
+-- Each field of the vector is the register field that the definition names.
 use Prim.Native.Nat.{ℕ}
 use mathlib.Core.Path.{_≡_, refl, ap, _∙_}
 use mathlib.Core.Bool.{Bool}
@@ -106,8 +107,8 @@ same : {depth depth′ length length′ offset offset′ stride stride′ : ℕ}
     → foreground ≡ foreground′
     → color ≡ color′
     → _≡_ {A = Vector}
-      (record { depth = depth; length = length; offset = offset; stride = stride; axial = axial; diagonal = diagonal; initial = initial; ymajor = ymajor; majorup = majorup; minorup = minorup; code = code; foreground = foreground; color = color })
-      (record { depth = depth′; length = length′; offset = offset′; stride = stride′; axial = axial′; diagonal = diagonal′; initial = initial′; ymajor = ymajor′; majorup = majorup′; minorup = minorup′; code = code′; foreground = foreground′; color = color′ })
+    (record { depth = depth; length = length; offset = offset; stride = stride; axial = axial; diagonal = diagonal; initial = initial; ymajor = ymajor; majorup = majorup; minorup = minorup; code = code; foreground = foreground; color = color })
+    (record { depth = depth′; length = length′; offset = offset′; stride = stride′; axial = axial′; diagonal = diagonal′; initial = initial′; ymajor = ymajor′; majorup = majorup′; minorup = minorup′; code = code′; foreground = foreground′; color = color′ })
 same a b c d e f g h i j k l m = cc
 
 returns : tie.Need-returns
