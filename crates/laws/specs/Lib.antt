@@ -9,3 +9,5 @@ pub mod Sound
 pub mod Order
 pub mod Ranges
 pub mod Spans
+pub mod Signs
+pub mod Walks
