@@ -8,3 +8,7 @@ pub mod Fit
 pub mod Sound
 pub mod Order
 pub mod Ranges
+pub mod Numbers
+pub mod Extremes
+pub mod Rows
+pub mod Fills
