@@ -55,6 +55,20 @@ module _ {b : Blt} {offset stride : ℕ} (r : Ranged b offset stride) where
   along-most j l =
       mul-le-mul (let m : j ≤ 4094 = omega (arith, r .high-most) in m) (let m : stride ≤ 65_535 = omega (arith, r .stride-most) in m)
 
+  -- of the last column and row, and of pixel k
+  pub last-most : ((b .width - 1) * b .depth ≤ 16_380) × ((b .height - 1) * stride ≤ 268_300_290) × (b .depth ≤ 4)
+  last-most = (
+    across-most (b .width - 1) (omega arith),
+    along-most (b .height - 1) (omega (arith, r .high)),
+    depth-most (r .deep),
+  )
+
+  pub pixel-most : (k : ℕ) → k < b .width * b .height → (k % b .width * b .depth ≤ 16_380) × (k / b .width * stride ≤ 268_300_290)
+  pixel-most k l = (
+    across-most (k % b .width) (omega (arith, mod-lt k (r .wide))),
+    along-most (k / b .width) (row-lt (b .width) (b .height) k (r .wide) l),
+  )
+
   pub area-most : b .width * b .height ≤ 16_769_025
   area-most =
       mul-le-mul (let m : b .width ≤ 4095 = omega (arith, r .wide-most) in m) (let m : b .height ≤ 4095 = omega (arith, r .high-most) in m)
