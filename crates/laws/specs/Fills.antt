@@ -1,0 +1,254 @@
+-- A solid fill: raster operation F0h gives the pattern, so a row is one value stored at each of its pixels, and the order
+-- of the pixels does not matter. Everything is over the byte count.
+use Prim.Native.Nat.{ℕ, zero, suc, _+_, _-_, _*_, _/_, _%_, _^_, _≤_, _<_}
+use mathlib.Core.Path.{_≡_, refl, sym, ap, _∙_}
+use mathlib.Core.Bool.{Bool, true, false}
+use mathlib.Core.List.{List, [], _∷_, _++_}
+use native.Mathlib.Omega.{arith}
+use native.Mathlib.Nat.{suc-mul, add-mul, add-assoc, mul-div-cancel}
+use lib.ListN.{length, set, take, drop, take-append-drop, length-drop, length-set}
+use lib.Seq.{set-comm, set-append-left, length-take-le}
+use Rattle.model.specs.Choice.{if_then_else_}
+use Rattle.model.specs.Pixel.{storePixel}
+use Rattle.model.specs.Raster.{raster, raster-pattern}
+use Rattle.model.specs.BltPixel.{destinationByte, drawBlt}
+use Rattle.model.specs.declared.Blt.{Blt}
+use Rattle.laws.specs.Pixels.{store-low, length-store}
+use Rattle.laws.specs.Order.{inOrder, bltPixels}
+use Rattle.laws.specs.Numbers.{depth-least}
+use Rattle.laws.specs.Rows.{toByte, walk, Row, place-in, place-on, place-back, to-inside, solid-drawn, solid-value}
+
+-- ---- rows of one value
+
+-- frame memory with a value at each of n pixels, from byte a up
+unfoldable pub stamped : (depth value n : ℕ) → ℕ → List ℕ → List ℕ
+stamped depth value zero a frame = frame
+stamped depth value (suc n) a frame = stamped depth value n (a + depth) (storePixel depth frame a value)
+
+-- the same from byte a down
+unfoldable stamped-down : (depth value n : ℕ) → ℕ → List ℕ → List ℕ
+stamped-down depth value zero a frame = frame
+stamped-down depth value (suc n) a frame = stamped-down depth value n (a - depth) (storePixel depth frame a value)
+
+module _ (depth value : ℕ) where
+  pub stamped-length : (n a : ℕ) (frame : List ℕ) → length (stamped depth value n a frame) ≡ length frame
+  unfolding stamped
+  stamped-length zero a frame = refl
+  stamped-length (suc n) a frame = stamped-length n (a + depth) _ ∙ length-store depth frame a value
+
+  -- a row writer's loop: before the first pixel, from pixel i to the next, and after the last
+  pub stamped-first : (n : ℕ) (frame : List ℕ) → stamped depth value n 0 frame ≡ stamped depth value (n - 0) (0 * depth) frame
+  stamped-first n frame = let z : n - 0 ≡ n = omega arith in let e : 0 * depth ≡ 0 = omega arith in rw (z, e)
+
+  pub stamped-next : (n i : ℕ) (frame : List ℕ) → i < n
+      → stamped depth value (n - i) (i * depth) frame
+      ≡ stamped depth value (n - (i + 1)) ((i + 1) * depth) (storePixel depth frame (i * depth) value)
+  stamped-next n i frame l =
+      let d : n - i ≡ suc (n - (i + 1)) = omega arith in
+      let e : (i + 1) * depth ≡ i * depth + depth = omega (arith, add-mul i 1 depth) in
+      rw (d, e) (unfold stamped in refl)
+
+  pub stamped-last : (n i a : ℕ) (frame : List ℕ) → n ≤ i → stamped depth value (n - i) a frame ≡ frame
+  stamped-last n i a frame l = let z : n - i ≡ 0 = omega arith in rw z (unfold stamped in refl)
+
+  -- a row writer that is lent a part of frame memory leaves the rest as it is
+  after : (xs ys : List ℕ) (i v : ℕ) → set (xs ++ ys) (length xs + i) v ≡ xs ++ set ys i v
+  after [] ys i v = let e : 0 + i ≡ i = omega arith in rw e
+  after (x ∷ xs) ys i v =
+      let e : suc (length xs) + i ≡ suc (length xs + i) = omega arith in
+      rw e (ap (λ (t : List ℕ). x ∷ t) (after xs ys i v))
+
+  store-after : (n : ℕ) (xs ys : List ℕ) (i v : ℕ) → storePixel n (xs ++ ys) (length xs + i) v ≡ xs ++ storePixel n ys i v
+  unfolding storePixel
+  store-after zero xs ys i v = refl
+  store-after (suc n) xs ys i v =
+      rw (after xs ys i (v % 256), add-assoc (length xs) i 1) (store-after n xs (set ys i (v % 256)) (i + 1) (v / 256))
+
+  store-before : (n : ℕ) (xs ys : List ℕ) (i v : ℕ) → i + n ≤ length xs → storePixel n (xs ++ ys) i v ≡ storePixel n xs i v ++ ys
+  unfolding storePixel
+  store-before zero xs ys i v h = refl
+  store-before (suc n) xs ys i v h =
+      rw (set-append-left xs ys i (v % 256) (omega arith))
+      (store-before n (set xs i (v % 256)) ys (i + 1) (v / 256) (rw (length-set xs i (v % 256)) (omega arith)))
+
+  stamped-after : (n : ℕ) (xs ys : List ℕ) (i : ℕ)
+      → stamped depth value n (length xs + i) (xs ++ ys) ≡ xs ++ stamped depth value n i ys
+  unfolding stamped
+  stamped-after zero xs ys i = refl
+  stamped-after (suc n) xs ys i =
+      rw (store-after depth xs ys i value, add-assoc (length xs) i depth) (stamped-after n xs _ (i + depth))
+
+  stamped-before : (n : ℕ) (xs ys : List ℕ) (i : ℕ) → i + n * depth ≤ length xs
+      → stamped depth value n i (xs ++ ys) ≡ stamped depth value n i xs ++ ys
+  unfolding stamped
+  stamped-before zero xs ys i h = refl
+  stamped-before (suc n) xs ys i h =
+      let s = suc-mul n depth in
+      rw (store-before depth xs ys i value (omega arith))
+      (stamped-before n (storePixel depth xs i value) ys (i + depth) (rw (length-store depth xs i value) (omega arith)))
+
+  pub stamped-part : (n a m : ℕ) (frame : List ℕ) → a + m ≤ length frame → n * depth ≤ m
+      → take a frame ++ (stamped depth value n 0 (take m (drop a frame)) ++ drop m (drop a frame)) ≡ stamped depth value n a frame
+  stamped-part n a m frame h l =
+      let rest = drop a frame in
+      let d = length-drop a frame in
+      let t : length (take m rest) ≡ m = length-take-le m rest (omega arith) in
+      let e : length (take a frame) + 0 ≡ a = omega (arith, length-take-le a frame (omega arith)) in
+      ap (λ (ys : List ℕ). take a frame ++ ys)
+      (sym (stamped-before n (take m rest) (drop m rest) 0 (omega arith)) ∙ ap (stamped depth value n 0) (take-append-drop m rest))
+      ∙ sym (stamped-after n (take a frame) rest 0) ∙ rw (e, take-append-drop a frame)
+
+  -- stores that share no byte may change places, so the order does not matter
+  set-store : (n : ℕ) (frame : List ℕ) (a v i x : ℕ) → a + n ≤ i → storePixel n (set frame i x) a v ≡ set (storePixel n frame a v) i x
+  unfolding storePixel
+  set-store zero frame a v i x h = refl
+  set-store (suc n) frame a v i x h =
+      rw (set-comm frame i a x (v % 256) (λ e. omega arith)) (set-store n (set frame a (v % 256)) (a + 1) (v / 256) i x (omega arith))
+
+  store-store : (n m : ℕ) (frame : List ℕ) (a v t w : ℕ) → a + n ≤ t
+      → storePixel n (storePixel m frame t w) a v ≡ storePixel m (storePixel n frame a v) t w
+  unfolding storePixel
+  store-store n zero frame a v t w h = refl
+  store-store n (suc m) frame a v t w h =
+      store-store n m (set frame t (w % 256)) a v (t + 1) (w / 256) (omega arith)
+      ∙ ap (λ (g : List ℕ). storePixel m g (t + 1) (w / 256)) (set-store n frame a v t (w % 256) h)
+
+  stamped-store : (n : ℕ) (frame : List ℕ) (a t : ℕ) → a + n * depth ≤ t
+      → stamped depth value n a (storePixel depth frame t value) ≡ storePixel depth (stamped depth value n a frame) t value
+  unfolding stamped
+  stamped-store zero frame a t h = refl
+  stamped-store (suc n) frame a t h =
+      let s = suc-mul n depth in
+      rw (store-store depth depth frame a value t value (omega arith)) (stamped-store n (storePixel depth frame a value) (a + depth) t (omega arith))
+
+  stamped-end : (n : ℕ) (frame : List ℕ) (a : ℕ)
+      → stamped depth value (suc n) a frame ≡ storePixel depth (stamped depth value n a frame) (a + n * depth) value
+  unfolding stamped
+  stamped-end zero frame a = let e : a + 0 * depth ≡ a = omega arith in rw e
+  stamped-end (suc n) frame a =
+      let e : a + suc n * depth ≡ a + depth + n * depth = omega (arith, suc-mul n depth) in
+      rw e (stamped-end n (storePixel depth frame a value) (a + depth))
+
+  down-up : (n : ℕ) (frame : List ℕ) (a : ℕ) → stamped-down depth value (suc n) (a + n * depth) frame ≡ stamped depth value (suc n) a frame
+  down-up zero frame a = let e : a + 0 * depth ≡ a = omega arith in rw e (unfold stamped stamped-down in refl)
+  down-up (suc n) frame a =
+      let t = a + suc n * depth in
+      let e : t - depth ≡ a + n * depth = omega (arith, suc-mul n depth) in
+      let one : stamped-down depth value (suc (suc n)) t frame ≡ stamped-down depth value (suc n) (t - depth) (storePixel depth frame t value) =
+      unfold stamped-down in refl in
+      one
+      ∙ rw e (down-up n (storePixel depth frame t value) a ∙ stamped-store (suc n) frame a t (omega arith) ∙ sym (stamped-end (suc n) frame a))
+
+-- ---- rows of a solid fill
+
+raster-fill : (m code p s d : ℕ) → code ≡ 0xF0 → raster m code p s d ≡ p % 2 ^ m
+raster-fill m code p s d e = rw e (raster-pattern m p s d)
+
+module _ (b : Blt) (solid : b .mono ≡ false) (fills : b .code ≡ 0xF0) where
+  fill-drawn : (k : ℕ) (frame : List ℕ) → drawBlt b k frame ≡ storePixel (b .depth) frame (toByte b k) (b .color0)
+  unfolding drawBlt destinationByte
+  fill-drawn k frame =
+      rw (solid-drawn b k solid, solid-value b k solid)
+      (ap (storePixel (b .depth) frame (destinationByte b k)) (raster-fill (8 * b .depth) (b .code) (b .color0) _ _ fills)
+      ∙ store-low (b .depth) frame (destinationByte b k) (b .color0))
+
+  -- n pixels that lie one after the other, in either direction
+  fill-right : (n k t : ℕ) (frame : List ℕ) → ((m : ℕ) → m < n → toByte b (k + m) ≡ t + m * b .depth)
+      → bltPixels b k n frame ≡ stamped (b .depth) (b .color0) n t frame
+  unfolding inOrder stamped
+  fill-right zero k t frame h = refl
+  fill-right (suc n) k t frame h =
+      let z : k + 0 ≡ k = omega arith in
+      let y : t + 0 * b .depth ≡ t = omega arith in
+      let g : toByte b k ≡ t = rw (z, y) at (h 0 (omega arith)) in
+      rw (fill-drawn k frame, g)
+      (fill-right n (k + 1) (t + b .depth) (storePixel (b .depth) frame t (b .color0))
+      (λ m q.
+      let x : k + 1 + m ≡ k + suc m = omega arith in
+      let w : t + b .depth + m * b .depth ≡ t + suc m * b .depth = omega (arith, suc-mul m (b .depth)) in
+      rw (x, w) (h (suc m) (omega arith))))
+
+  fill-left : (n k t : ℕ) (frame : List ℕ) → ((m : ℕ) → m < n → toByte b (k + m) ≡ t - m * b .depth)
+      → bltPixels b k n frame ≡ stamped-down (b .depth) (b .color0) n t frame
+  unfolding inOrder stamped-down
+  fill-left zero k t frame h = refl
+  fill-left (suc n) k t frame h =
+      let z : k + 0 ≡ k = omega arith in
+      let y : t - 0 * b .depth ≡ t = omega arith in
+      let g : toByte b k ≡ t = rw (z, y) at (h 0 (omega arith)) in
+      rw (fill-drawn k frame, g)
+      (fill-left n (k + 1) (t - b .depth) (storePixel (b .depth) frame t (b .color0))
+      (λ m q.
+      let x : k + 1 + m ≡ k + suc m = omega arith in
+      let w : t - b .depth - m * b .depth ≡ t - suc m * b .depth = omega (arith, suc-mul m (b .depth)) in
+      rw (x, w) (h (suc m) (omega arith))))
+
+-- the lowest byte of a row that starts at `start` and whose last pixel lies `by` bytes on
+abbrev pub lowest : Bool → ℕ → ℕ → ℕ
+lowest negative start by = if negative then start - by else start
+
+module _ {size : ℕ} {b : Blt} where
+  fill-suc : (n k : ℕ) (frame : List ℕ) → Row size b k (suc n) → b .mono ≡ false → b .code ≡ 0xF0
+      → stamped (b .depth) (b .color0) (suc n) (lowest (b .left) (toByte b k) (n * b .depth)) frame
+      ≡ bltPixels b k (suc n) frame
+  fill-suc n k frame r solid fills = go (b .left) refl
+    where
+      on : (x : Bool) → b .left ≡ x → (m : ℕ) → m < suc n → toByte b (k + m) ≡ walk x (toByte b k) (m * b .depth)
+      on x q m l =
+          place-on (to-inside (r .fit)) k m (r .start) (omega (arith, r .row))
+          ∙ ap (λ (y : Bool). walk y (toByte b k) (m * b .depth)) q
+
+      go : (x : Bool) → b .left ≡ x
+          → stamped (b .depth) (b .color0) (suc n) (lowest x (toByte b k) (n * b .depth)) frame ≡ bltPixels b k (suc n) frame
+      go false q = sym (fill-right b solid fills (suc n) k (toByte b k) frame (on false q))
+      go true q =
+          let h = place-back (to-inside (r .fit)) k n (r .start) (omega (arith, r .row)) q in
+          let a = toByte b k - n * b .depth in
+          let g : toByte b k ≡ a + n * b .depth = omega arith in
+          sym (fill-left b solid fills (suc n) k (toByte b k) frame (on true q)
+          ∙ ap (λ (t : ℕ). stamped-down (b .depth) (b .color0) (suc n) t frame) g ∙ down-up (b .depth) (b .color0) n frame a)
+
+  end-suc : (n k : ℕ) → Row size b k (suc n)
+      → lowest (b .left) (toByte b k) (n * b .depth) + suc n * b .depth ≤ size
+  end-suc n k r = go (b .left) refl
+    where
+      first : toByte b k + b .depth ≤ size
+      first = let e : k + 0 ≡ k = omega arith in rw e at (place-in (to-inside (r .fit)) k 0 (r .start) (omega (arith, r .row)))
+
+      go : (x : Bool) → b .left ≡ x → lowest x (toByte b k) (n * b .depth) + suc n * b .depth ≤ size
+      go true q =
+          omega (arith, place-back (to-inside (r .fit)) k n (r .start) (omega (arith, r .row)) q, first, suc-mul n (b .depth))
+      go false q =
+          let w : toByte b (k + n) ≡ toByte b k + n * b .depth =
+          place-on (to-inside (r .fit)) k n (r .start) (omega (arith, r .row)) ∙ ap (λ (y : Bool). walk y (toByte b k) (n * b .depth)) q in
+          omega (arith, place-in (to-inside (r .fit)) k n (r .start) (omega (arith, r .row)), suc-mul n (b .depth))
+
+  -- a row, stored from its lowest byte up
+  pub fill-row : (n k : ℕ) (frame : List ℕ) → 0 < n → Row size b k n → b .mono ≡ false → b .code ≡ 0xF0
+      → stamped (b .depth) (b .color0) n (lowest (b .left) (toByte b k) ((n - 1) * b .depth)) frame
+      ≡ bltPixels b k n frame
+  fill-row zero k frame z r solid fills = absurd (omega arith)
+  fill-row (suc n) k frame z r solid fills = let q : suc n - 1 ≡ n = omega arith in rw q (fill-suc n k frame r solid fills)
+
+  -- it lies in frame memory
+  pub row-end : (n k : ℕ) → 0 < n → Row size b k n
+      → lowest (b .left) (toByte b k) ((n - 1) * b .depth) + n * b .depth ≤ size
+  row-end zero k z r = absurd (omega arith)
+  row-end (suc n) k z r = let q : suc n - 1 ≡ n = omega arith in rw q (end-suc n k r)
+
+  -- what a row writer for its depth leaves, lent the row's bytes from a to e
+  pub fill-part : (n k a e depth : ℕ) (frame ys : List ℕ) → 0 < n → Row size b k n → b .mono ≡ false → b .code ≡ 0xF0
+      → length frame ≡ size → a ≡ lowest (b .left) (toByte b k) ((n - 1) * b .depth) → e ≡ a + n * b .depth
+      → b .depth ≡ depth
+      → ys ≡ stamped depth (b .color0) (length (take (e - a) (drop a frame)) / depth) 0 (take (e - a) (drop a frame))
+      → take a frame ++ (ys ++ drop (e - a) (drop a frame)) ≡ bltPixels b k n frame
+  fill-part n k a e depth frame ys z r solid fills s low end same filled =
+      let l = row-end n k z r in
+      let m : e - a ≡ n * b .depth = omega arith in
+      let d = length-drop a frame in
+      let t : length (take (n * b .depth) (drop a frame)) ≡ n * b .depth = length-take-le (n * b .depth) (drop a frame) (omega arith) in
+      let c : length (take (e - a) (drop a frame)) / depth ≡ n =
+      rw (← same, m, t) (mul-div-cancel n (depth-least (r .fit .to .deep))) in
+      let row : stamped (b .depth) (b .color0) n a frame ≡ bltPixels b k n frame = rw low (fill-row n k frame z r solid fills) in
+      rw (filled, c, ← same, m)
+      (stamped-part (b .depth) (b .color0) n a (n * b .depth) frame (omega arith) (omega arith) ∙ row)

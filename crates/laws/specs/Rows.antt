@@ -1,0 +1,173 @@
+-- Pixels of one row of a BLT: where they lie, and what one of them draws.
+use Prim.Native.Nat.{ℕ, suc, _+_, _-_, _*_, _/_, _%_, _≤_, _<_}
+use mathlib.Core.Path.{_≡_, refl, sym, ap, _∙_}
+use mathlib.Core.Bool.{Bool, true, false, _&&_}
+use mathlib.Core.List.{List}
+use mathlib.Core.Logic.{⊎-elim}
+use native.Mathlib.Omega.{arith}
+use native.Mathlib.Nat.{add-mul}
+use lib.ListN.{length}
+use Rattle.model.specs.Choice.{_=?_, if_then_else_, true-or-false, not-both}
+use Rattle.model.specs.Formats.{Depth}
+use Rattle.model.specs.Bounds.{added, taken, firstByte}
+use Rattle.model.specs.Pixel.{readPixel, storePixel}
+use Rattle.model.specs.Raster.{raster}
+use Rattle.model.specs.BltPixel.{plus, minus, rectangleOutside, destinationByte, sourceByte, inkBit, patternValue, skipped, sourceValue, drawBlt}
+use Rattle.model.specs.declared.Blt.{Blt}
+use Rattle.laws.specs.Pixels.{length-store, store-raster}
+use Rattle.laws.specs.Order.{bltPixels, order-suc}
+use Rattle.laws.specs.Ranges.{Ranged, FitBlt}
+use Rattle.laws.specs.Numbers.{column-add, row-add, number-add, across-most}
+use Rattle.laws.specs.Extremes.{pixel-low, pixel-in}
+
+-- ---- where pixels lie
+
+-- a rectangle that lies in frame memory
+pub record Inside (size : ℕ) (b : Blt) (offset stride : ℕ) : Type 0 where
+  pub ranged : Ranged b offset stride
+  pub inside : rectangleOutside size b offset stride ≡ false
+
+-- the first byte of its pixel k
+abbrev pub place : Blt → ℕ → ℕ → ℕ → ℕ
+place b offset stride k = firstByte offset (plus b stride k) (minus b stride k)
+
+-- `by` bytes on from `start` along a row
+abbrev pub walk : Bool → ℕ → ℕ → ℕ
+walk negative start by = if negative then start - by else start + by
+
+-- a walk that stays in frame memory
+pub record Walk (negative : Bool) (start by : ℕ) : Type 0 where
+  pub back : negative ≡ true → by ≤ start
+  pub start-most : start ≤ 16_777_216
+  pub by-most : by ≤ 16_380
+
+walk-on : (negative : Bool) (offset c m depth u v : ℕ) → taken negative (c * depth) + v ≤ offset + (added negative (c * depth) + u)
+    → firstByte offset (added negative ((c + m) * depth) + u) (taken negative ((c + m) * depth) + v)
+    ≡ walk negative (firstByte offset (added negative (c * depth) + u) (taken negative (c * depth) + v)) (m * depth)
+walk-on true offset c m depth u v h = omega (arith, add-mul c m depth)
+walk-on false offset c m depth u v h = omega (arith, add-mul c m depth)
+
+walk-back : (negative : Bool) (offset c m depth u v : ℕ)
+    → taken negative ((c + m) * depth) + v ≤ offset + (added negative ((c + m) * depth) + u) → negative ≡ true
+    → m * depth ≤ firstByte offset (added negative (c * depth) + u) (taken negative (c * depth) + v)
+walk-back true offset c m depth u v h e = omega (arith, add-mul c m depth)
+walk-back false offset c m depth u v h e = absurd (not-both false e refl)
+
+-- pixel k and pixel k + m of the same row
+module _ {size : ℕ} {b : Blt} {offset stride : ℕ} (r : Inside size b offset stride) (k m : ℕ)
+    (start : k < b .width * b .height) (row : k % b .width + m < b .width) where
+  pub place-in : place b offset stride (k + m) + b .depth ≤ size
+  place-in =
+      pixel-in size b offset stride (r .ranged) (r .inside) (k + m) (number-add (b .width) k m row (b .height) start)
+
+  pub place-on : place b offset stride (k + m) ≡ walk (b .left) (place b offset stride k) (m * b .depth)
+  place-on =
+      rw (column-add (b .width) k m row, row-add (b .width) k m row)
+      (walk-on (b .left) offset (k % b .width) m (b .depth) _ _ (pixel-low size b offset stride (r .ranged) (r .inside) k start))
+
+  pub place-back : b .left ≡ true → m * b .depth ≤ place b offset stride k
+  place-back =
+      walk-back (b .left) offset (k % b .width) m (b .depth) _ _
+      (rw (column-add (b .width) k m row, row-add (b .width) k m row)
+      at (pixel-low size b offset stride (r .ranged) (r .inside) (k + m) (number-add (b .width) k m row (b .height) start)))
+
+  pub place-walk : size ≤ 16_777_216 → Walk (b .left) (place b offset stride k) (m * b .depth)
+  place-walk small = record {
+    back = place-back;
+    start-most = omega (arith, pixel-in size b offset stride (r .ranged) (r .inside) k start);
+    by-most = across-most (r .ranged) m (omega arith);
+  }
+
+-- the first byte of destination pixel k
+abbrev pub toByte : Blt → ℕ → ℕ
+toByte b k = place b (b .offset) (b .stride) k
+
+-- where a pixel's source is read: of a BLT that reads none, where its destination is
+abbrev pub fromOffset : Blt → ℕ
+fromOffset b = if b .reads then b .srcoffset else b .offset
+
+abbrev pub fromStride : Blt → ℕ
+fromStride b = if b .reads then b .srcstride else b .stride
+
+abbrev pub fromByte : Blt → ℕ → ℕ
+fromByte b k = place b (fromOffset b) (fromStride b) k
+
+pub to-inside : {size : ℕ} {b : Blt} → FitBlt size b → Inside size b (b .offset) (b .stride)
+to-inside fit = record { ranged = fit .to; inside = fit .inside }
+
+pub from-inside : {size : ℕ} {b : Blt} → FitBlt size b → Inside size b (fromOffset b) (fromStride b)
+from-inside {size} {b} fit = go (b .reads) refl
+  where
+    go : (x : Bool) → b .reads ≡ x
+        → Inside size b (if x then b .srcoffset else b .offset) (if x then b .srcstride else b .stride)
+    go true e = record { ranged = fit .from; inside = fit .source-inside e }
+    go false e = to-inside fit
+
+-- ---- what a pixel draws
+
+-- the pixel at byte d with pattern value p and its source at byte s
+unfoldable pub dotted : (code p : ℕ) (reads : Bool) (foreground depth d s : ℕ) → List ℕ → List ℕ
+dotted code p reads foreground depth d s frame =
+    storePixel depth frame d
+    (raster 32 code p (if reads then readPixel depth frame s else foreground) (readPixel depth frame d))
+
+pub length-dotted : (code p : ℕ) (reads : Bool) (foreground depth d s : ℕ) (frame : List ℕ)
+    → length (dotted code p reads foreground depth d s frame) ≡ length frame
+unfolding dotted
+length-dotted code p reads foreground depth d s frame = length-store depth frame d _
+
+source-from : (b : Blt) (k : ℕ) (frame : List ℕ)
+    → if b .reads then readPixel (b .depth) frame (fromByte b k) else b .foreground
+    ≡ sourceValue b k frame
+unfolding sourceValue sourceByte
+source-from b k frame = ⊎-elim (λ e. rw e) (λ e. rw e) (true-or-false (b .reads))
+
+module _ (b : Blt) (deep : Depth (b .depth)) (k : ℕ) (frame : List ℕ) where
+  pub dot-drawn : skipped b k ≡ false
+      → dotted (b .code) (patternValue b k) (b .reads) (b .foreground) (b .depth) (toByte b k) (fromByte b k) frame
+      ≡ drawBlt b k frame
+  unfolding dotted drawBlt destinationByte
+  dot-drawn e =
+      rw (e, source-from b k frame)
+      (store-raster (b .depth) deep frame (destinationByte b k) (b .code) (patternValue b k) (sourceValue b k frame)
+      (readPixel (b .depth) frame (destinationByte b k)))
+
+-- a pixel of a solid pattern
+pub solid-drawn : (b : Blt) (k : ℕ) → b .mono ≡ false → skipped b k ≡ false
+unfolding skipped
+solid-drawn b k e = rw e
+
+pub solid-value : (b : Blt) (k : ℕ) → b .mono ≡ false → patternValue b k ≡ b .color0
+unfolding patternValue
+solid-value b k e = rw e
+
+-- a pixel of a mono pattern
+pub mono-skipped : (b : Blt) (k : ℕ) → b .mono ≡ true → skipped b k ≡ b .transparent && (inkBit b k =? 0)
+unfolding skipped
+mono-skipped b k e = rw e
+
+pub mono-value : (b : Blt) (k : ℕ) → b .mono ≡ true → patternValue b k ≡ if inkBit b k =? 1 then b .color1 else b .color0
+unfolding patternValue
+mono-value b k e = rw e
+
+pub length-drawn : (b : Blt) (k : ℕ) (frame : List ℕ) → length (drawBlt b k frame) ≡ length frame
+unfolding drawBlt
+length-drawn b k frame =
+    ⊎-elim (λ e. rw e) (λ e. rw e (length-store (b .depth) frame (destinationByte b k) _)) (true-or-false (skipped b k))
+
+-- ---- parts of rows
+
+-- n pixels of one row, from pixel k
+pub record Row (size : ℕ) (b : Blt) (k n : ℕ) : Type 0 where
+  pub fit : FitBlt size b
+  pub start : k < b .width * b .height
+  pub row : k % b .width + n ≤ b .width
+  pub small : size ≤ 16_777_216
+
+-- the first of those that remain
+pub pixels-next : (b : Blt) (k n i : ℕ) (frame : List ℕ) → i < n
+    → bltPixels b (k + i) (n - i) frame ≡ bltPixels b (k + (i + 1)) (n - (i + 1)) (drawBlt b (k + i) frame)
+pixels-next b k n i frame l =
+    let d : n - i ≡ suc (n - (i + 1)) = omega arith in
+    let e : k + (i + 1) ≡ k + i + 1 = omega arith in
+    rw (d, e) (order-suc (drawBlt b) (k + i) (n - (i + 1)) frame)
