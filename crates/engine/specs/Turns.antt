@@ -1,0 +1,49 @@
+-- What the engine's inner functions are handed and answer.
+use Prim.Native.Nat.{ℕ, _+_, _-_, _≤_, _<_}
+use mathlib.Core.Path.{_≡_}
+use mathlib.Core.List.{List}
+use Rattle.model.specs.Choice.{_=?_, if_then_else_}
+use Rattle.model.specs.Limits.{ringLeast, ringMost}
+use Rattle.model.specs.Unit.{commandRefusal, stopped, loadedCore, units}
+use Rattle.model.specs.Calls.{badRing, badFrame}
+use Rattle.model.specs.declared.Core.{Core}
+use Rattle.model.specs.declared.State.{State}
+use Rattle.model.specs.declared.Place.{Place}
+use Rattle.laws.specs.Sound.{Sound, machineOf}
+
+-- 1 or 2 for a length out of range, or 0
+unfoldable pub lengthRefusal : ℕ → ℕ → ℕ
+lengthRefusal ringlength framelength = if badRing ringlength then 1 else if badFrame framelength then 2 else 0
+
+-- a core whose pointers lie in a ring of so many words
+pub record FitCore (c : Core) (w ringlength : ℕ) : Type 0 where
+  pub ring-least : ringLeast ≤ c .ringlength
+  pub ring-most : c .ringlength ≤ ringMost
+  pub read-in : c .read < c .ringlength
+  pub write-in : w < c .ringlength
+  pub ring-is : ringlength ≡ c .ringlength
+
+-- the core after the unit of an idle engine
+unfoldable pub loadUnit : List ℕ → Core → Core
+loadUnit ring c = if commandRefusal ring c =? 0 then loadedCore ring c else stopped c (commandRefusal ring c)
+
+-- a core with other registers, read pointer, completion number and place
+unfoldable pub movedCore : Core → List ℕ → ℕ → ℕ → Place → Core
+movedCore c registers read completion place = record {
+  registers = registers;
+  read = read;
+  ringlength = c .ringlength;
+  framelength = c .framelength;
+  completion = completion;
+  stop = c .stop;
+  place = place;
+}
+
+-- some units were done, at most `left`, and what is left of the budget goes on from there
+pub record Advanced (ring : List ℕ) (s t : State) (before after : List ℕ) (left used : ℕ) : Type 0 where
+  pub some : 0 < used
+  pub most : used ≤ left
+  pub write-kept : t .write ≡ s .write
+  pub sound : Sound ring (t .write) (machineOf t after)
+  pub same : (u : ℕ)
+      → units ring (s .write) left u (machineOf s before) ≡ units ring (t .write) (left - used) (u + used) (machineOf t after)

@@ -1,0 +1,52 @@
+use borrow.Author.Tests.{eq-eqb, ne-eqb}
+use Rattle.judging.proofs.Modes.{carried, not-carried}
+use borrow.Author.Needs.{needs}
+use Rattle.judging.proofs.bad_blt_modes.Statement.{statement}
+use Rattle.judging.proofs.bad_blt_modes.Tie as tie
+
+array-read-blt : tie.Need-array-read-blt
+array-read-blt c = search needs
+
+array-read-raster : tie.Need-array-read-raster
+array-read-raster c = search needs
+
+bits-requires : tie.Need-bits-requires
+bits-requires c κs = search needs
+
+returns : tie.Need-returns
+returns c = rw (← c .before .bits .ensures .0, ne-eqb _ _ (c .if1 .taken))
+
+bits-requires-2 : tie.Need-bits-requires-2
+bits-requires-2 c κs = search needs
+
+returns-2 : tie.Need-returns-2
+returns-2 c = rw (← c .before .before .before .bits .ensures .0, eq-eqb _ _ (c .before .before .if1 .left), ← c .before .bits2 .ensures .0, not-carried _ (c .if2 .taken))
+
+bits-requires-3 : tie.Need-bits-requires-3
+bits-requires-3 c κs = search needs
+
+returns-3 : tie.Need-returns-3
+returns-3 c =
+    rw (← c .before .before .before .before .before .bits .ensures .0, eq-eqb _ _ (c .before .before .before .before .if1 .left), ← c .before .before .before .bits2 .ensures .0, carried _ (c .before .before .if2 .left), ← c .before .bits3 .ensures .0, not-carried _ (c .if3 .taken))
+
+bad-bits-requires : tie.Need-bad-bits-requires
+bad-bits-requires c κs = search needs
+
+returns-4 : tie.Need-returns-4
+returns-4 c =
+    rw (← c .before .before .before .before .before .before .bits .ensures .0, eq-eqb _ _ (c .before .before .before .before .before .if1 .left), ← c .before .before .before .before .bits2 .ensures .0, carried _ (c .before .before .before .if2 .left), ← c .before .before .bits3 .ensures .0, carried _ (c .before .if3 .left)) (c .bad-bits .ensures)
+
+pub bad-blt-modes-spec : {M : Type 1} → statement M
+bad-blt-modes-spec =
+    tie.close
+    (tie.spec
+    array-read-blt
+    array-read-raster
+    bits-requires
+    returns
+    bits-requires-2
+    returns-2
+    bits-requires-3
+    returns-3
+    bad-bits-requires
+    returns-4)
