@@ -1,11 +1,12 @@
 -- What the engine's inner functions are handed and answer.
 use Prim.Native.Nat.{ℕ, _+_, _-_, _≤_, _<_}
 use mathlib.Core.Path.{_≡_}
+use mathlib.Core.Bool.{not, _||_}
 use mathlib.Core.List.{List}
 use Rattle.model.specs.Choice.{_=?_, if_then_else_}
 use Rattle.model.specs.Limits.{ringLeast, ringMost}
 use Rattle.model.specs.Unit.{commandRefusal, stopped, loadedCore, units}
-use Rattle.model.specs.Calls.{badRing, badFrame}
+use Rattle.model.specs.Calls.{badRing, badFrame, unfit}
 use Rattle.model.specs.declared.Core.{Core}
 use Rattle.model.specs.declared.State.{State}
 use Rattle.model.specs.declared.Place.{Place}
@@ -14,6 +15,13 @@ use Rattle.laws.specs.Sound.{Sound, machineOf}
 -- 1 or 2 for a length out of range, or 0
 unfoldable pub lengthRefusal : ℕ → ℕ → ℕ
 lengthRefusal ringlength framelength = if badRing ringlength then 1 else if badFrame framelength then 2 else 0
+
+-- 3 or 4 for a run that is lent a ring and a frame memory of these lengths, or 0
+unfoldable pub runNumber : State → ℕ → ℕ → ℕ
+runNumber s ringlength framelength =
+    if unfit s then 3
+    else if not (ringlength =? s .core .ringlength) || not (framelength =? s .core .framelength) then 4
+    else 0
 
 -- a core whose pointers lie in a ring of so many words
 pub record FitCore (c : Core) (w ringlength : ℕ) : Type 0 where
@@ -47,3 +55,9 @@ pub record Advanced (ring : List ℕ) (s t : State) (before after : List ℕ) (l
   pub sound : Sound ring (t .write) (machineOf t after)
   pub same : (u : ℕ)
       → units ring (s .write) left u (machineOf s before) ≡ units ring (t .write) (left - used) (u + used) (machineOf t after)
+
+-- all the units of a budget were done, or as many as could be
+pub record Finished (ring : List ℕ) (s t : State) (before after : List ℕ) (budget used : ℕ) : Type 0 where
+  pub sound : Sound ring (t .write) (machineOf t after)
+  pub write-kept : t .write ≡ s .write
+  pub same : units ring (s .write) budget 0 (machineOf s before) ≡ record { machine = machineOf t after; used = used }

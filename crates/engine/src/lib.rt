@@ -2,14 +2,12 @@
 // definition of its name in the crate `model` says.
 ghost use mathlib.Core.Path.{_≡_};
 ghost use mathlib.Core.Bool.{true};
-ghost use Prim.Native.Nat.{ℕ, _+_, _-_, _≤_, _<_};
+ghost use Prim.Native.Nat.{_+_, _-_, _≤_, _<_};
 ghost use lib.ListN.{length};
-ghost use Rattle.model.specs.Ring.{room};
-ghost use Rattle.model.specs.Unit.{ready, loadedCore, commandRefusal, stopped, drawnCore, possible};
-ghost use Rattle.model.specs.Calls.{badStop, badPlace, unfit, freshState, accepted, refused, setup, publish, restart, askRoom, runWord, runRefusal, runUnits, stateAfter, run, runFrame};
-ghost use Rattle.laws.specs.Order.{pixels};
-ghost use Rattle.laws.specs.Sound.{Sound, machineOf};
-ghost use Rattle.engine.specs.Turns.{lengthRefusal, FitCore, Advanced};
+ghost use Rattle.model.specs.Unit.{ready, stopped, pixelCount, drawnCore, possible};
+ghost use Rattle.model.specs.Calls.{badStop, badPlace, unfit, freshState, accepted, refused, setup, publish, restart, askRoom, runWord};
+ghost use Rattle.model.specs.declared.Place.the-variants.{Drawing};
+ghost use Rattle.engine.specs.Turns.{lengthRefusal, FitCore, loadUnit, movedCore, runNumber};
 use model::Answer;
 use model::Core;
 use model::Kind;
@@ -142,7 +140,7 @@ fn fresh(ringlength: usize, framelength: usize) -> State
 }
 
 // A new engine for a ring of so many words and a frame memory of so many bytes.
-pub fn set_up(ringlength: usize, framelength: usize) -> Answer
+pub fn setup(ringlength: usize, framelength: usize) -> Answer
     ensures { λ r. ⌜ r ≡ setup ringlength framelength ⌝ }
 {
     let no = length_refusal(ringlength, framelength);
@@ -153,7 +151,7 @@ pub fn set_up(ringlength: usize, framelength: usize) -> Answer
 }
 
 // Publishes a position: the words before it are the engine's to read.
-pub fn publish_to(s: State, p: usize) -> Answer
+pub fn publish(s: State, p: usize) -> Answer
     ensures { λ r. ⌜ r ≡ publish s p ⌝ }
 {
     let bad = is_unfit(s);
@@ -169,7 +167,7 @@ pub fn publish_to(s: State, p: usize) -> Answer
 }
 
 // Clears the stop number of a stopped engine and drops the words that wait.
-pub fn restart_now(s: State) -> Answer
+pub fn restart(s: State) -> Answer
     ensures { λ r. ⌜ r ≡ restart s ⌝ }
 {
     let bad = is_unfit(s);
@@ -187,7 +185,7 @@ pub fn restart_now(s: State) -> Answer
 }
 
 // Asks for the room.
-pub fn ask_room(s: State) -> Answer
+pub fn room(s: State) -> Answer
     ensures { λ r. ⌜ r ≡ askRoom s ⌝ }
 {
     let bad = is_unfit(s);
@@ -255,8 +253,8 @@ fn load(c: Core, words: &[u32]) -> Core
     if first != 0 {
         return halt(c, first);
     }
-    let before = c.registers;
-    let registers = command::load(before, words, read, header);
+    let old = c.registers;
+    let registers = command::load(old, words, read, header);
     let draws = command::is_drawing(header);
     if draws {
         let kind = command::kind_of(header);
@@ -314,17 +312,6 @@ fn drawn(c: Core, kind: Kind, k: usize) -> Core
     moved(c, registers, c.read, c.completion, Place::Drawing(kind, k))
 }
 
-// Draws n pixels of a command that judging accepts, from pixel k.
-fn paint(frame: &mut [u8], kind: Kind, registers: [u32; 17], k: usize, n: usize)
-    requires { ⌜ (judge kind registers (length (now frame)) ≡ 0) × (k + n ≤ pixelCount kind registers) × (length (now frame) ≤ 16777216) ⌝ }
-    ensures { λ _. ⌜ now (frame .exit) ≡ pixels kind registers k n (now (frame .entry)) ⌝ }
-{
-    match kind {
-        Kind::Blt => blt::draw(frame, blt::blt_of(registers), k, n),
-        Kind::Vector => vector::draw(frame, vector::vector_of(registers), k, n),
-    }
-}
-
 // How many of the pixels from k on a budget allows.
 fn span(kind: Kind, registers: [u32; 17], k: usize, left: u32) -> u32
     requires { ⌜ (k < pixelCount kind registers) × (0 < left) ⌝ }
@@ -336,63 +323,6 @@ fn span(kind: Kind, registers: [u32; 17], k: usize, left: u32) -> u32
         return rest as u32;
     }
     left
-}
-
-// Units done in one go: one command's load, or a span of pixels.
-struct Turn {
-    state: State,
-    used: u32,
-}
-
-// Does the next units: a load, or as many pixels of the command in progress as the budget allows.
-fn advance(s: State, words: &[u32], frame: &mut [u8], left: u32) -> Turn
-    requires { ⌜ (Sound (now words) (s .write) (machineOf s (now frame))) × (possible (now words) (s .core) (s .write) ≡ true) × (0 < left) ⌝ }
-    ensures { λ r. ⌜ Advanced (now (words .entry)) s (r .state) (now (frame .entry)) (now (frame .exit)) left (r .used) ⌝ }
-{
-    let c = s.core;
-    let write = s.write;
-    let place = c.place;
-    match place {
-        Place::Idle => {
-            let d = load(c, words);
-            Turn {
-                state: State { core: d, write },
-                used: 1,
-            }
-        }
-        Place::Drawing(kind, k) => {
-            let registers = c.registers;
-            let n = span(kind, registers, k, left);
-            let more = n as usize;
-            paint(frame, kind, registers, k, more);
-            let d = drawn(c, kind, k + more);
-            Turn {
-                state: State { core: d, write },
-                used: n,
-            }
-        }
-    }
-}
-
-// Does units until no further one can be done or the budget is used.
-fn do_units(s: State, words: &[u32], frame: &mut [u8], budget: u32) -> Turn
-    requires { ⌜ Sound (now words) (s .write) (machineOf s (now frame)) ⌝ }
-    ensures { λ r. ⌜ Finished (now (words .entry)) s (r .state) (now (frame .entry)) (now (frame .exit)) budget (r .used) ⌝ }
-{
-    let mut t = s;
-    let mut used = 0;
-    while used < budget {
-        let more = is_possible(t, words);
-        if more {
-            let a = advance(t, words, frame, budget - used);
-            let next = a.state;
-            t = next;
-            used += a.used;
-        } else {
-            return Turn { state: t, used };
-        }
-    }
-    Turn { state: t, used }
 }
 
 // ---- run
@@ -415,7 +345,7 @@ fn word_of(s: State, words: &[u32]) -> RunWord
 
 // 3 or 4 for a run, or 0.
 fn run_refusal(s: State, ringlength: usize, framelength: usize) -> u32
-    ensures { λ r. ⌜ r ≡ runNumber s «ringlength» «framelength» ⌝ }
+    ensures { λ r. ⌜ r ≡ runNumber s ringlength framelength ⌝ }
 {
     let bad = is_unfit(s);
     if bad {
@@ -429,27 +359,4 @@ fn run_refusal(s: State, ringlength: usize, framelength: usize) -> u32
         return 4;
     }
     4
-}
-
-// Does units, as many as the budget has, and reports how many they were and why it ends.
-pub fn run_units(words: &[u32], s: State, frame: &mut [u8], budget: u32) -> Answer
-    ensures { λ r. ⌜ (r ≡ run (now (words .entry)) s (now (frame .entry)) budget) × (now (frame .exit) ≡ runFrame (now (words .entry)) s (now (frame .entry)) budget) ⌝ }
-{
-    let no = run_refusal(s, words.len(), frame.len());
-    if no == 0 {
-        let t = do_units(s, words, frame, budget);
-        let after = t.state;
-        let word = word_of(after, words);
-        let c = after.core;
-        let left = ring::room_left(c.ringlength, c.read, after.write);
-        return Answer {
-            state: after,
-            reply: Reply::Ran {
-                word,
-                units: t.used,
-                room: left,
-            },
-        };
-    }
-    refuse(s, no)
 }

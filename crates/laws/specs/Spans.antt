@@ -11,7 +11,8 @@ use Rattle.model.specs.Unit.{Machine, pixelCount, drawPixel, drawnCore, unit, d
 use Rattle.model.specs.Steps.{unit-draws}
 use Rattle.model.specs.declared.Core.{Core}
 use Rattle.model.specs.declared.Kind.{Kind}
-use Rattle.model.specs.declared.Place.the-variants.{Drawing}
+use Rattle.model.specs.declared.Place.{Place}
+use Rattle.model.specs.declared.Place.the-variants.{Idle, Drawing}
 use Rattle.laws.specs.Units.{units-step}
 use Rattle.laws.specs.Order.{pixels, order-zero, order-suc}
 
@@ -42,6 +43,11 @@ pub drawing-possible : (ring : List ℕ) (c : Core) (w : ℕ) (kind : Kind) (k :
     → possible ring c w ≡ true
 unfolding possible
 drawing-possible ring c w kind k z p = rw (eq-eqb _ _ z) (or-left (drawing (c .place)) _ (ap drawing p))
+
+-- and an idle engine can do a unit where a command is ready
+pub idle-possible : (ring : List ℕ) (c : Core) (w : ℕ) → c .stop ≡ 0 → c .place ≡ Idle → possible ring c w ≡ ready ring c w
+unfolding possible
+idle-possible ring c w z p = rw (eq-eqb _ _ z) (ap (λ (q : Place). drawing q || ready ring c w) p)
 
 pub units-span : (ring : List ℕ) (w n more used : ℕ) (m : Machine) (kind : Kind) (k : ℕ) → m .core .stop ≡ 0
     → m .core .place ≡ Drawing kind k → k + suc n ≤ pixelCount kind (m .core .registers)
