@@ -36,21 +36,6 @@ module _ (depth value : ℕ) where
   stamped-length zero a frame = refl
   stamped-length (suc n) a frame = stamped-length n (a + depth) _ ∙ length-store depth frame a value
 
-  -- a row writer's loop: before the first pixel, from pixel i to the next, and after the last
-  pub stamped-first : (n : ℕ) (frame : List ℕ) → stamped depth value n 0 frame ≡ stamped depth value (n - 0) (0 * depth) frame
-  stamped-first n frame = let z : n - 0 ≡ n = omega arith in let e : 0 * depth ≡ 0 = omega arith in rw (z, e)
-
-  pub stamped-next : (n i : ℕ) (frame : List ℕ) → i < n
-      → stamped depth value (n - i) (i * depth) frame
-      ≡ stamped depth value (n - (i + 1)) ((i + 1) * depth) (storePixel depth frame (i * depth) value)
-  stamped-next n i frame l =
-      let d : n - i ≡ suc (n - (i + 1)) = omega arith in
-      let e : (i + 1) * depth ≡ i * depth + depth = omega (arith, add-mul i 1 depth) in
-      rw (d, e) (unfold stamped in refl)
-
-  pub stamped-last : (n i a : ℕ) (frame : List ℕ) → n ≤ i → stamped depth value (n - i) a frame ≡ frame
-  stamped-last n i a frame l = let z : n - i ≡ 0 = omega arith in rw z (unfold stamped in refl)
-
   -- a row writer that is lent a part of frame memory leaves the rest as it is
   after : (xs ys : List ℕ) (i v : ℕ) → set (xs ++ ys) (length xs + i) v ≡ xs ++ set ys i v
   after [] ys i v = let e : 0 + i ≡ i = omega arith in rw e
@@ -138,6 +123,36 @@ module _ (depth value : ℕ) where
       unfold stamped-down in refl in
       one
       ∙ rw e (down-up n (storePixel depth frame t value) a ∙ stamped-store (suc n) frame a t (omega arith) ∙ sym (stamped-end (suc n) frame a))
+
+-- a row in the middle of its writer's loop: i of n pixels are stored, and the rest remain to store
+pub record Stamping (depth value n : ℕ) (first : List ℕ) (i : ℕ) (row : List ℕ) : Type 0 where
+  pub stored : i ≤ n
+  pub same : length row ≡ length first
+  pub rest : stamped depth value n 0 first ≡ stamped depth value (n - i) (i * depth) row
+
+module _ {depth value n : ℕ} where
+  pub stamping-all : (row : List ℕ) → Stamping depth value n row 0 row
+  stamping-all row =
+      let z : n - 0 ≡ n = omega arith in
+      let e : 0 * depth ≡ 0 = omega arith in
+      record { stored = omega arith; same = refl; rest = rw (z, e) }
+
+  pub stamping-next : {first : List ℕ} {i at : ℕ} {row next : List ℕ} → Stamping depth value n first i row → i < n
+      → at ≡ i * depth → next ≡ storePixel depth row at value → Stamping depth value n first (i + 1) next
+  unfolding stamped
+  stamping-next {first} {i} {at} {row} {next} m l a e =
+      let d : n - i ≡ suc (n - (i + 1)) = omega arith in
+      let s : (i + 1) * depth ≡ i * depth + depth = omega (arith, add-mul i 1 depth) in
+      record {
+        stored = omega arith;
+        same = rw e (length-store depth row at value ∙ m .same);
+        rest = rw (e, a, s) (m .rest ∙ rw d);
+      }
+
+  pub stamping-none : {first : List ℕ} {i : ℕ} {row : List ℕ} → Stamping depth value n first i row → n ≤ i
+      → row ≡ stamped depth value n 0 first
+  unfolding stamped
+  stamping-none {first} {i} m l = let z : n - i ≡ 0 = omega arith in sym (m .rest ∙ rw z)
 
 -- ---- rows of a solid fill
 
