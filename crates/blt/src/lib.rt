@@ -24,15 +24,25 @@ use pixel::Operation;
 
 // Registers, by their places in the list.
 const RASTER_MODE: usize = 0;
+
 const DST_OFFSET: usize = 1;
+
 const SRC_OFFSET: usize = 2;
+
 const STRIDE: usize = 3;
+
 const WID_HEIGHT: usize = 4;
+
 const SRC_COLOR_FG: usize = 5;
+
 const PAT_COLOR_0: usize = 7;
+
 const PAT_COLOR_1: usize = 8;
+
 const PAT_DATA_0: usize = 9;
+
 const PAT_DATA_1: usize = 10;
+
 const BLT_MODE: usize = 15;
 
 // Bits high:low of a word, as a size or a place.

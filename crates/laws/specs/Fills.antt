@@ -16,7 +16,7 @@ use Rattle.model.specs.declared.Blt.{Blt}
 use Rattle.laws.specs.Pixels.{store-low, length-store}
 use Rattle.laws.specs.Order.{inOrder, bltPixels}
 use Rattle.laws.specs.Numbers.{depth-least}
-use Rattle.laws.specs.Rows.{toByte, walk, Row, place-in, place-on, place-back, to-inside, solid-drawn, solid-value}
+use Rattle.laws.specs.Rows.{toByte, walk, Walk, Row, row-walk, place-in, place-on, place-back, to-inside, solid-drawn, solid-value}
 
 -- ---- rows of one value
 
@@ -239,31 +239,37 @@ module _ {size : ℕ} {b : Blt} where
           omega (arith, place-in (to-inside (r .fit)) k n (r .start) (omega (arith, r .row)), suc-mul n (b .depth))
 
   -- a row, stored from its lowest byte up
-  pub fill-row : (n k : ℕ) (frame : List ℕ) → 0 < n → Row size b k n → b .mono ≡ false → b .code ≡ 0xF0
+  fill-row : (n k : ℕ) (frame : List ℕ) → 0 < n → Row size b k n → b .mono ≡ false → b .code ≡ 0xF0
       → stamped (b .depth) (b .color0) n (lowest (b .left) (toByte b k) ((n - 1) * b .depth)) frame
       ≡ bltPixels b k n frame
   fill-row zero k frame z r solid fills = absurd (omega arith)
   fill-row (suc n) k frame z r solid fills = let q : suc n - 1 ≡ n = omega arith in rw q (fill-suc n k frame r solid fills)
 
-  -- it lies in frame memory
-  pub row-end : (n k : ℕ) → 0 < n → Row size b k n
-      → lowest (b .left) (toByte b k) ((n - 1) * b .depth) + n * b .depth ≤ size
+  row-end : (n k : ℕ) → 0 < n → Row size b k n → lowest (b .left) (toByte b k) ((n - 1) * b .depth) + n * b .depth ≤ size
   row-end zero k z r = absurd (omega arith)
   row-end (suc n) k z r = let q : suc n - 1 ≡ n = omega arith in rw q (end-suc n k r)
 
-  -- what a row writer for its depth leaves, lent the row's bytes from a to e
-  pub fill-part : (n k a e depth : ℕ) (frame ys : List ℕ) → 0 < n → Row size b k n → b .mono ≡ false → b .code ≡ 0xF0
-      → length frame ≡ size → a ≡ lowest (b .left) (toByte b k) ((n - 1) * b .depth) → e ≡ a + n * b .depth
-      → b .depth ≡ depth
-      → ys ≡ stamped depth (b .color0) (length (take (e - a) (drop a frame)) / depth) 0 (take (e - a) (drop a frame))
-      → take a frame ++ (ys ++ drop (e - a) (drop a frame)) ≡ bltPixels b k n frame
-  fill-part n k a e depth frame ys z r solid fills s low end same filled =
-      let l = row-end n k z r in
-      let m : e - a ≡ n * b .depth = omega arith in
+-- a row whose first pixel lies at `start`: the walk to its last pixel, and its bytes, from a on
+module _ {size : ℕ} {b : Blt} {k n : ℕ} (r : Row size b k n) (z : 0 < n) {start : ℕ} (starts : start ≡ toByte b k) where
+  pub low-walk : Walk (b .left) start ((n - 1) * b .depth)
+  low-walk = row-walk r (to-inside (r .fit)) {i = n - 1} (omega arith) starts refl
+
+  pub bytes-in : {a : ℕ} → a ≡ lowest (b .left) start ((n - 1) * b .depth) → a + n * b .depth ≤ size
+  bytes-in low = rw (low, starts) (row-end n k z r)
+
+  -- what a row writer for its depth leaves, lent these bytes
+  pub fill-part : b .mono ≡ false → b .code ≡ 0xF0 → {a : ℕ} → a ≡ lowest (b .left) start ((n - 1) * b .depth) → {depth : ℕ}
+      → b .depth ≡ depth → (frame : List ℕ) {ys : List ℕ} → length frame ≡ size
+      → let part = take (a + n * b .depth - a) (drop a frame) in
+      ys ≡ stamped depth (b .color0) (length part / depth) 0 part
+      → take a frame ++ (ys ++ drop (a + n * b .depth - a) (drop a frame)) ≡ bltPixels b k n frame
+  fill-part solid fills {a} low {depth} same frame {ys} s filled =
+      let l = bytes-in low in
+      let m : a + n * b .depth - a ≡ n * b .depth = omega arith in
       let d = length-drop a frame in
       let t : length (take (n * b .depth) (drop a frame)) ≡ n * b .depth = length-take-le (n * b .depth) (drop a frame) (omega arith) in
-      let c : length (take (e - a) (drop a frame)) / depth ≡ n =
+      let c : length (take (a + n * b .depth - a) (drop a frame)) / depth ≡ n =
       rw (← same, m, t) (mul-div-cancel n (depth-least (r .fit .to .deep))) in
-      let row : stamped (b .depth) (b .color0) n a frame ≡ bltPixels b k n frame = rw low (fill-row n k frame z r solid fills) in
+      let row : stamped (b .depth) (b .color0) n a frame ≡ bltPixels b k n frame = rw (low, starts) (fill-row n k frame z r solid fills) in
       rw (filled, c, ← same, m)
       (stamped-part (b .depth) (b .color0) n a (n * b .depth) frame (omega arith) (omega arith) ∙ row)

@@ -89,7 +89,7 @@ number-requires-8 : tie.Need-number-requires-8
 number-requires-8 c κs = search needs
 
 returns : tie.Need-returns
-returns c = 
+returns c =
     described _
     (c .before .before .before .before .before .before .before .before .before .before .before .before .before .before .depth-of .ensures ∙ ap (λ (x : ℕ). depthOf (formatOf x)) (c .before .before .before .before .before .before .before .before .before .before .before .before .before .before .before .bits .ensures .0))
     (c .before .before .before .before .before .before .before .before .before .before .before .before .before .number .ensures)

@@ -39,7 +39,7 @@ add-result : tie.Need-add-result
 add-result c = let m = pixel-most (c .before .before .before .before .before .pre .0 .ranged) _ (c .before .before .before .before .before .pre .1) in omega (arith, c .before .before .before .before .before .pre .0 .ranged .offset-most)
 
 sub-result : tie.Need-sub-result
-sub-result c = 
+sub-result c =
     rw (c .before .before .before .ahead .ensures .0, c .before .before .ahead2 .ensures .0, c .before .behind .ensures .0, c .behind2 .ensures .0)
     (pixel-low _ _ _ _ (c .before .before .before .before .before .pre .0 .ranged) (c .before .before .before .before .before .pre .0 .inside) _ (c .before .before .before .before .before .pre .1))
 

@@ -25,7 +25,7 @@ same-length-2 : tie.Need-same-length-2
 same-length-2 c = search needs
 
 returns-3 : tie.Need-returns-3
-returns-3 c = 
+returns-3 c =
     let p = pos-of-ne-zero (c .before .before .before .before .if1 .left) in
     c .before .before .dot2 .ensures ∙ inked-set _ _ _ _ (omega (arith, c .before .before .before .before .before .before .pre .0)) (c .before .before .before .before .before .before .pre .2 .1) (c .before .before .before .before .before .before .pre .2 .2)
 

@@ -43,7 +43,7 @@ add-ink-of : tie.Need-add-ink-of Inv-loop μ-loop
 add-ink-of c = omega (arith, c .before .before .before .before .before .before .before .before .pre .0 .row, c .before .before .before .before .before .before .before .before .pre .0 .fit .to .wide-most, c .loop-test .taken)
 
 ink-of-requires : tie.Need-ink-of-requires Inv-loop μ-loop
-ink-of-requires c κs = 
+ink-of-requires c κs =
     (c .before .before .before .before .before .before .before .before .pre .0 .fit .column-most, c .before .before .pattern-place .ensures .1, omega (arith, c .before .before .before .before .before .before .before .before .pre .0 .row, c .before .before .before .before .before .before .before .before .pre .0 .fit .to .wide-most, c .loop-test .taken))
 
 walk-on-requires : tie.Need-walk-on-requires Inv-loop μ-loop
@@ -53,7 +53,7 @@ walk-on-requires-2 : tie.Need-walk-on-requires-2 Inv-loop μ-loop
 walk-on-requires-2 c κs = row-walk (c .before .before .before .before .before .before .before .before .before .before .pre .0) (from-inside (c .before .before .before .before .before .before .before .before .before .before .pre .0 .fit)) (c .before .before .loop-test .taken) (c .before .before .before .before .before .from-byte .ensures) (c .before .before .before .loop .inv .goes)
 
 mono-dot-requires : tie.Need-mono-dot-requires Inv-loop μ-loop
-mono-dot-requires c κs = 
+mono-dot-requires c κs =
     let r = c .before .before .before .before .before .before .before .before .before .before .before .before .pre .0 in
     let l = c .before .before .before .before .loop-test .taken in
     let m = c .before .before .before .before .before .loop .inv in (
@@ -75,7 +75,7 @@ loop-less : tie.Need-loop-less Inv-loop μ-loop
 loop-less c = omega arith
 
 loop-again : tie.Need-loop-again Inv-loop μ-loop
-loop-again c = 
+loop-again c =
     let r = c .before .before .before .before .before .before .before .before .before .before .before .before .before .before .before .before .pre .0 in
     let l = c .before .before .before .before .before .before .before .before .loop-test .taken in
     let m = c .before .before .before .before .before .before .before .before .before .loop .inv in

@@ -31,7 +31,7 @@ walk-on-requires-2 : tie.Need-walk-on-requires-2 Inv-loop μ-loop
 walk-on-requires-2 c κs = row-walk (c .before .before .before .before .before .before .before .pre .0) (from-inside (c .before .before .before .before .before .before .before .pre .0 .fit)) (c .before .loop-test .taken) (c .before .before .before .from-byte .ensures) (c .before .before .loop .inv .goes)
 
 dot-requires : tie.Need-dot-requires Inv-loop μ-loop
-dot-requires c κs = 
+dot-requires c κs =
     let r = c .before .before .before .before .before .before .before .before .before .pre .0 in
     let l = c .before .before .before .loop-test .taken in
     let m = c .before .before .before .before .loop .inv in (
@@ -51,7 +51,7 @@ loop-less : tie.Need-loop-less Inv-loop μ-loop
 loop-less c = omega arith
 
 loop-again : tie.Need-loop-again Inv-loop μ-loop
-loop-again c = 
+loop-again c =
     let r = c .before .before .before .before .before .before .before .before .before .before .before .before .before .pre .0 in
     let l = c .before .before .before .before .before .before .before .loop-test .taken in
     let m = c .before .before .before .before .before .before .before .before .loop .inv in
