@@ -146,9 +146,9 @@ fn first_byte(size: usize, b: Blt, offset: usize, stride: usize, k: usize) -> us
     let width = b.width;
     let across = k % width * b.depth;
     let along = k / width * stride;
-    let rise = ahead(b.left, across) + ahead(b.up, along);
-    let fall = behind(b.left, across) + behind(b.up, along);
-    offset + rise - fall
+    let plus = ahead(b.left, across) + ahead(b.up, along);
+    let minus = behind(b.left, across) + behind(b.up, along);
+    offset + plus - minus
 }
 
 // The first byte of destination pixel k.
@@ -234,9 +234,27 @@ fn mono_dot(f: &mut [u8], b: Blt, ink: u32, clear: Operation, set: Operation, d:
 
 // ---- rows
 
-// Draws n pixels of one row of a BLT with a solid pattern, from pixel k.
+// Draws n pixels of one row of a BLT with a solid pattern that reads no source, from pixel k.
 fn solid_row(f: &mut [u8], b: Blt, k: usize, n: usize)
-    requires { ⌜ (Row (length (now f)) b k n) × (b .mono ≡ false) ⌝ }
+    requires { ⌜ (Row (length (now f)) b k n) × (b .mono ≡ false) × (b .reads ≡ false) ⌝ }
+    ensures { λ _. ⌜ now (f .exit) ≡ bltPixels b k n (now (f .entry)) ⌝ }
+{
+    let op = pixel::prepare(b.code, b.color0);
+    let size = f.len();
+    let to = to_byte(size, b, k);
+    let mut i = 0;
+    let mut by = 0;
+    while i < n {
+        let d = walk_on(b.left, to, by);
+        dot(f, op, false, b.foreground, b.depth, d, d);
+        by += b.depth;
+        i += 1;
+    }
+}
+
+// Draws n pixels of one row of a BLT with a solid pattern that reads its source, from pixel k.
+fn source_row(f: &mut [u8], b: Blt, k: usize, n: usize)
+    requires { ⌜ (Row (length (now f)) b k n) × (b .mono ≡ false) × (b .reads ≡ true) ⌝ }
     ensures { λ _. ⌜ now (f .exit) ≡ bltPixels b k n (now (f .entry)) ⌝ }
 {
     let op = pixel::prepare(b.code, b.color0);
@@ -248,7 +266,7 @@ fn solid_row(f: &mut [u8], b: Blt, k: usize, n: usize)
     while i < n {
         let d = walk_on(b.left, to, by);
         let s = walk_on(b.left, from, by);
-        dot(f, op, b.reads, b.foreground, b.depth, d, s);
+        dot(f, op, true, b.foreground, b.depth, d, s);
         by += b.depth;
         i += 1;
     }
@@ -365,6 +383,11 @@ fn draw_row(f: &mut [u8], b: Blt, k: usize, n: usize)
     let code = b.code;
     if code == 0xF0 {
         fill(f, b, k, n);
+        return;
+    }
+    let reads = b.reads;
+    if reads {
+        source_row(f, b, k, n);
         return;
     }
     solid_row(f, b, k, n);

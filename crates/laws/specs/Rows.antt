@@ -1,6 +1,6 @@
 -- Pixels of one row of a BLT: where they lie, and what one of them draws.
 use Prim.Native.Nat.{ℕ, suc, _+_, _-_, _*_, _/_, _%_, _≤_, _<_}
-use mathlib.Core.Path.{_≡_, refl, sym, ap, _∙_}
+use mathlib.Core.Path.{_≡_, refl, sym, _∙_}
 use mathlib.Core.Bool.{Bool, true, false, _&&_}
 use mathlib.Core.List.{List}
 use mathlib.Core.Logic.{⊎-elim}
@@ -93,6 +93,13 @@ fromStride b = if b .reads then b .srcstride else b .stride
 abbrev pub fromByte : Blt → ℕ → ℕ
 fromByte b k = place b (fromOffset b) (fromStride b) k
 
+pub from-to : (b : Blt) (k : ℕ) → b .reads ≡ false → toByte b k ≡ fromByte b k
+from-to b k e = go (b .reads) e
+  where
+    go : (x : Bool) → x ≡ false
+        → toByte b k ≡ place b (if x then b .srcoffset else b .offset) (if x then b .srcstride else b .stride) k
+    go x e = rw e
+
 pub to-inside : {size : ℕ} {b : Blt} → FitBlt size b → Inside size b (b .offset) (b .stride)
 to-inside fit = record { ranged = fit .to; inside = fit .inside }
 
@@ -146,11 +153,11 @@ pub solid-value : (b : Blt) (k : ℕ) → b .mono ≡ false → patternValue b k
 unfolding patternValue
 solid-value b k e = rw e
 
-pub solid-dot : (b : Blt) → Depth (b .depth) → b .mono ≡ false → (k : ℕ) {code p d s : ℕ} (frame : List ℕ)
-    → code ≡ b .code → p ≡ b .color0 → d ≡ toByte b k → s ≡ fromByte b k
-    → dotted code p (b .reads) (b .foreground) (b .depth) d s frame ≡ drawBlt b k frame
-solid-dot b deep solid k frame c p d s =
-    rw (c, p ∙ sym (solid-value b k solid), d, s) (dot-drawn b deep k frame (solid-drawn b k solid))
+pub solid-dot : (b : Blt) → Depth (b .depth) → b .mono ≡ false → (k : ℕ) {reads : Bool} {code p d s : ℕ} (frame : List ℕ)
+    → b .reads ≡ reads → code ≡ b .code → p ≡ b .color0 → d ≡ toByte b k → s ≡ fromByte b k
+    → dotted code p reads (b .foreground) (b .depth) d s frame ≡ drawBlt b k frame
+solid-dot b deep solid k frame r c p d s =
+    rw (sym r, c, p ∙ sym (solid-value b k solid), d, s) (dot-drawn b deep k frame (solid-drawn b k solid))
 
 -- a pixel of a mono pattern whose bit is `ink`
 unfoldable pub inked : Blt → (ink d s : ℕ) → List ℕ → List ℕ

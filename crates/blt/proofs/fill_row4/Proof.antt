@@ -1,5 +1,4 @@
 use Prim.Native.Nat.{_-_}
-use mathlib.Core.Path.{_∙_}
 use native.Mathlib.Omega.{arith}
 use Rattle.laws.specs.Fills.{Stamping, stamping-all, stamping-next, stamping-none}
 use Rattle.blt.proofs.fill_row4.Statement.{statement}

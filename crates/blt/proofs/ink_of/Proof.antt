@@ -1,4 +1,3 @@
-use mathlib.Core.Path.{sym, _∙_}
 use Rattle.laws.specs.Rows.{ink-lt}
 use borrow.Author.Needs.{needs}
 use Rattle.blt.proofs.ink_of.Statement.{statement}

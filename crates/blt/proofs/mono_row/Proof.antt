@@ -1,9 +1,8 @@
 use borrow.Author.Needs.{needs}
-use Prim.Native.Nat.{_*_, _≤_, _%_, _/_, _<_}
-use native.Mathlib.Nat.{mod-lt, div-le-self, mod-le}
+use native.Mathlib.Nat.{div-le-self}
 use Rattle.laws.specs.Numbers.{area-most}
-use Prim.Native.Nat.{_+_, _-_}
-use mathlib.Core.Path.{sym, _∙_}
+use Prim.Native.Nat.{_-_}
+use mathlib.Core.Path.{_∙_}
 use native.Mathlib.Omega.{arith}
 use Rattle.laws.specs.Rows.{Remain, remain-all, remain-next, remain-none, remain-by, row-walk, row-place, row-in, to-inside, from-inside, mono-drawn, ink-row}
 use Rattle.blt.proofs.mono_row.Statement.{statement}
