@@ -16,7 +16,7 @@ use Rattle.model.specs.declared.Blt.{Blt}
 use Rattle.laws.specs.Pixels.{store-low, length-store}
 use Rattle.laws.specs.Order.{inOrder, bltPixels}
 use Rattle.laws.specs.Numbers.{depth-least}
-use Rattle.laws.specs.Rows.{toByte, walk, Row, place-in, place-on, place-back, to-inside, solid-drawn, solid-value}
+use Rattle.laws.specs.Rows.{toByte, walk, Walk, Row, row-walk, place-in, place-on, place-back, to-inside, solid-drawn, solid-value}
 
 -- ---- rows of one value
 
@@ -35,21 +35,6 @@ module _ (depth value : ℕ) where
   unfolding stamped
   stamped-length zero a frame = refl
   stamped-length (suc n) a frame = stamped-length n (a + depth) _ ∙ length-store depth frame a value
-
-  -- a row writer's loop: before the first pixel, from pixel i to the next, and after the last
-  pub stamped-first : (n : ℕ) (frame : List ℕ) → stamped depth value n 0 frame ≡ stamped depth value (n - 0) (0 * depth) frame
-  stamped-first n frame = let z : n - 0 ≡ n = omega arith in let e : 0 * depth ≡ 0 = omega arith in rw (z, e)
-
-  pub stamped-next : (n i : ℕ) (frame : List ℕ) → i < n
-      → stamped depth value (n - i) (i * depth) frame
-      ≡ stamped depth value (n - (i + 1)) ((i + 1) * depth) (storePixel depth frame (i * depth) value)
-  stamped-next n i frame l =
-      let d : n - i ≡ suc (n - (i + 1)) = omega arith in
-      let e : (i + 1) * depth ≡ i * depth + depth = omega (arith, add-mul i 1 depth) in
-      rw (d, e) (unfold stamped in refl)
-
-  pub stamped-last : (n i a : ℕ) (frame : List ℕ) → n ≤ i → stamped depth value (n - i) a frame ≡ frame
-  stamped-last n i a frame l = let z : n - i ≡ 0 = omega arith in rw z (unfold stamped in refl)
 
   -- a row writer that is lent a part of frame memory leaves the rest as it is
   after : (xs ys : List ℕ) (i v : ℕ) → set (xs ++ ys) (length xs + i) v ≡ xs ++ set ys i v
@@ -139,6 +124,36 @@ module _ (depth value : ℕ) where
       one
       ∙ rw e (down-up n (storePixel depth frame t value) a ∙ stamped-store (suc n) frame a t (omega arith) ∙ sym (stamped-end (suc n) frame a))
 
+-- a row in the middle of its writer's loop: i of n pixels are stored, and the rest remain to store
+pub record Stamping (depth value n : ℕ) (first : List ℕ) (i : ℕ) (row : List ℕ) : Type 0 where
+  pub stored : i ≤ n
+  pub same : length row ≡ length first
+  pub rest : stamped depth value n 0 first ≡ stamped depth value (n - i) (i * depth) row
+
+module _ {depth value n : ℕ} where
+  pub stamping-all : (row : List ℕ) → Stamping depth value n row 0 row
+  stamping-all row =
+      let z : n - 0 ≡ n = omega arith in
+      let e : 0 * depth ≡ 0 = omega arith in
+      record { stored = omega arith; same = refl; rest = rw (z, e) }
+
+  pub stamping-next : {first : List ℕ} {i at : ℕ} {row next : List ℕ} → Stamping depth value n first i row → i < n
+      → at ≡ i * depth → next ≡ storePixel depth row at value → Stamping depth value n first (i + 1) next
+  unfolding stamped
+  stamping-next {first} {i} {at} {row} {next} m l a e =
+      let d : n - i ≡ suc (n - (i + 1)) = omega arith in
+      let s : (i + 1) * depth ≡ i * depth + depth = omega (arith, add-mul i 1 depth) in
+      record {
+        stored = omega arith;
+        same = rw e (length-store depth row at value ∙ m .same);
+        rest = rw (e, a, s) (m .rest ∙ rw d);
+      }
+
+  pub stamping-none : {first : List ℕ} {i : ℕ} {row : List ℕ} → Stamping depth value n first i row → n ≤ i
+      → row ≡ stamped depth value n 0 first
+  unfolding stamped
+  stamping-none {first} {i} m l = let z : n - i ≡ 0 = omega arith in sym (m .rest ∙ rw z)
+
 -- ---- rows of a solid fill
 
 raster-fill : (m code p s d : ℕ) → code ≡ 0xF0 → raster m code p s d ≡ p % 2 ^ m
@@ -224,31 +239,37 @@ module _ {size : ℕ} {b : Blt} where
           omega (arith, place-in (to-inside (r .fit)) k n (r .start) (omega (arith, r .row)), suc-mul n (b .depth))
 
   -- a row, stored from its lowest byte up
-  pub fill-row : (n k : ℕ) (frame : List ℕ) → 0 < n → Row size b k n → b .mono ≡ false → b .code ≡ 0xF0
+  fill-row : (n k : ℕ) (frame : List ℕ) → 0 < n → Row size b k n → b .mono ≡ false → b .code ≡ 0xF0
       → stamped (b .depth) (b .color0) n (lowest (b .left) (toByte b k) ((n - 1) * b .depth)) frame
       ≡ bltPixels b k n frame
   fill-row zero k frame z r solid fills = absurd (omega arith)
   fill-row (suc n) k frame z r solid fills = let q : suc n - 1 ≡ n = omega arith in rw q (fill-suc n k frame r solid fills)
 
-  -- it lies in frame memory
-  pub row-end : (n k : ℕ) → 0 < n → Row size b k n
-      → lowest (b .left) (toByte b k) ((n - 1) * b .depth) + n * b .depth ≤ size
+  row-end : (n k : ℕ) → 0 < n → Row size b k n → lowest (b .left) (toByte b k) ((n - 1) * b .depth) + n * b .depth ≤ size
   row-end zero k z r = absurd (omega arith)
   row-end (suc n) k z r = let q : suc n - 1 ≡ n = omega arith in rw q (end-suc n k r)
 
-  -- what a row writer for its depth leaves, lent the row's bytes from a to e
-  pub fill-part : (n k a e depth : ℕ) (frame ys : List ℕ) → 0 < n → Row size b k n → b .mono ≡ false → b .code ≡ 0xF0
-      → length frame ≡ size → a ≡ lowest (b .left) (toByte b k) ((n - 1) * b .depth) → e ≡ a + n * b .depth
-      → b .depth ≡ depth
-      → ys ≡ stamped depth (b .color0) (length (take (e - a) (drop a frame)) / depth) 0 (take (e - a) (drop a frame))
-      → take a frame ++ (ys ++ drop (e - a) (drop a frame)) ≡ bltPixels b k n frame
-  fill-part n k a e depth frame ys z r solid fills s low end same filled =
-      let l = row-end n k z r in
-      let m : e - a ≡ n * b .depth = omega arith in
+-- a row whose first pixel lies at `start`: the walk to its last pixel, and its bytes, from a on
+module _ {size : ℕ} {b : Blt} {k n : ℕ} (r : Row size b k n) (z : 0 < n) {start : ℕ} (starts : start ≡ toByte b k) where
+  pub low-walk : Walk (b .left) start ((n - 1) * b .depth)
+  low-walk = row-walk r (to-inside (r .fit)) {i = n - 1} (omega arith) starts refl
+
+  pub bytes-in : {a : ℕ} → a ≡ lowest (b .left) start ((n - 1) * b .depth) → a + n * b .depth ≤ size
+  bytes-in low = rw (low, starts) (row-end n k z r)
+
+  -- what a row writer for its depth leaves, lent these bytes
+  pub fill-part : b .mono ≡ false → b .code ≡ 0xF0 → {a : ℕ} → a ≡ lowest (b .left) start ((n - 1) * b .depth) → {depth : ℕ}
+      → b .depth ≡ depth → (frame : List ℕ) {ys : List ℕ} → length frame ≡ size
+      → let part = take (a + n * b .depth - a) (drop a frame) in
+      ys ≡ stamped depth (b .color0) (length part / depth) 0 part
+      → take a frame ++ (ys ++ drop (a + n * b .depth - a) (drop a frame)) ≡ bltPixels b k n frame
+  fill-part solid fills {a} low {depth} same frame {ys} s filled =
+      let l = bytes-in low in
+      let m : a + n * b .depth - a ≡ n * b .depth = omega arith in
       let d = length-drop a frame in
       let t : length (take (n * b .depth) (drop a frame)) ≡ n * b .depth = length-take-le (n * b .depth) (drop a frame) (omega arith) in
-      let c : length (take (e - a) (drop a frame)) / depth ≡ n =
+      let c : length (take (a + n * b .depth - a) (drop a frame)) / depth ≡ n =
       rw (← same, m, t) (mul-div-cancel n (depth-least (r .fit .to .deep))) in
-      let row : stamped (b .depth) (b .color0) n a frame ≡ bltPixels b k n frame = rw low (fill-row n k frame z r solid fills) in
+      let row : stamped (b .depth) (b .color0) n a frame ≡ bltPixels b k n frame = rw (low, starts) (fill-row n k frame z r solid fills) in
       rw (filled, c, ← same, m)
       (stamped-part (b .depth) (b .color0) n a (n * b .depth) frame (omega arith) (omega arith) ∙ row)

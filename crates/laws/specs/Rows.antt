@@ -1,21 +1,22 @@
 -- Pixels of one row of a BLT: where they lie, and what one of them draws.
 use Prim.Native.Nat.{ℕ, suc, _+_, _-_, _*_, _/_, _%_, _≤_, _<_}
-use mathlib.Core.Path.{_≡_, refl, sym, ap, _∙_}
+use mathlib.Core.Path.{_≡_, refl, sym, _∙_}
 use mathlib.Core.Bool.{Bool, true, false, _&&_}
 use mathlib.Core.List.{List}
 use mathlib.Core.Logic.{⊎-elim}
 use native.Mathlib.Omega.{arith}
-use native.Mathlib.Nat.{add-mul}
+use native.Mathlib.Nat.{add-mul, mod-lt}
 use lib.ListN.{length}
 use Rattle.model.specs.Choice.{_=?_, if_then_else_, true-or-false, not-both}
 use Rattle.model.specs.Formats.{Depth}
 use Rattle.model.specs.Bounds.{added, taken, firstByte}
 use Rattle.model.specs.Pixel.{readPixel, storePixel}
 use Rattle.model.specs.Raster.{raster}
+use Rattle.model.specs.Pattern.{patternBit, patternPlace}
 use Rattle.model.specs.BltPixel.{plus, minus, rectangleOutside, destinationByte, sourceByte, inkBit, patternValue, skipped, sourceValue, drawBlt}
 use Rattle.model.specs.declared.Blt.{Blt}
 use Rattle.laws.specs.Pixels.{length-store, store-raster}
-use Rattle.laws.specs.Order.{bltPixels, order-suc}
+use Rattle.laws.specs.Order.{bltPixels, order-suc, order-zero}
 use Rattle.laws.specs.Ranges.{Ranged, FitBlt}
 use Rattle.laws.specs.Numbers.{column-add, row-add, number-add, across-most}
 use Rattle.laws.specs.Extremes.{pixel-low, pixel-in}
@@ -92,6 +93,13 @@ fromStride b = if b .reads then b .srcstride else b .stride
 abbrev pub fromByte : Blt → ℕ → ℕ
 fromByte b k = place b (fromOffset b) (fromStride b) k
 
+pub from-to : (b : Blt) (k : ℕ) → b .reads ≡ false → toByte b k ≡ fromByte b k
+from-to b k e = go (b .reads) e
+  where
+    go : (x : Bool) → x ≡ false
+        → toByte b k ≡ place b (if x then b .srcoffset else b .offset) (if x then b .srcstride else b .stride) k
+    go x e = rw e
+
 pub to-inside : {size : ℕ} {b : Blt} → FitBlt size b → Inside size b (b .offset) (b .stride)
 to-inside fit = record { ranged = fit .to; inside = fit .inside }
 
@@ -132,6 +140,10 @@ module _ (b : Blt) (deep : Depth (b .depth)) (k : ℕ) (frame : List ℕ) where
       (store-raster (b .depth) deep frame (destinationByte b k) (b .code) (patternValue b k) (sourceValue b k frame)
       (readPixel (b .depth) frame (destinationByte b k)))
 
+skipped-none : (b : Blt) (k : ℕ) (frame : List ℕ) → skipped b k ≡ true → drawBlt b k frame ≡ frame
+unfolding drawBlt
+skipped-none b k frame e = rw e
+
 -- a pixel of a solid pattern
 pub solid-drawn : (b : Blt) (k : ℕ) → b .mono ≡ false → skipped b k ≡ false
 unfolding skipped
@@ -141,14 +153,63 @@ pub solid-value : (b : Blt) (k : ℕ) → b .mono ≡ false → patternValue b k
 unfolding patternValue
 solid-value b k e = rw e
 
--- a pixel of a mono pattern
-pub mono-skipped : (b : Blt) (k : ℕ) → b .mono ≡ true → skipped b k ≡ b .transparent && (inkBit b k =? 0)
+pub solid-dot : (b : Blt) → Depth (b .depth) → b .mono ≡ false → (k : ℕ) {reads : Bool} {code p d s : ℕ} (frame : List ℕ)
+    → b .reads ≡ reads → code ≡ b .code → p ≡ b .color0 → d ≡ toByte b k → s ≡ fromByte b k
+    → dotted code p reads (b .foreground) (b .depth) d s frame ≡ drawBlt b k frame
+solid-dot b deep solid k frame r c p d s =
+    rw (sym r, c, p ∙ sym (solid-value b k solid), d, s) (dot-drawn b deep k frame (solid-drawn b k solid))
+
+-- a pixel of a mono pattern whose bit is `ink`
+unfoldable pub inked : Blt → (ink d s : ℕ) → List ℕ → List ℕ
+inked b ink d s frame =
+    if b .transparent && (ink =? 0) then frame
+    else dotted (b .code) (if ink =? 1 then b .color1 else b .color0) (b .reads) (b .foreground) (b .depth) d s frame
+
+module _ (b : Blt) (d s : ℕ) (frame : List ℕ) {ink : ℕ} where
+  pub inked-none : ink ≡ 0 → b .transparent ≡ true → frame ≡ inked b ink d s frame
+  unfolding inked
+  inked-none i t = rw (i, t)
+
+  pub inked-clear : {code p : ℕ} → ink ≡ 0 → b .transparent ≡ false → code ≡ b .code → p ≡ b .color0
+      → dotted code p (b .reads) (b .foreground) (b .depth) d s frame ≡ inked b ink d s frame
+  unfolding inked
+  inked-clear i t e q = rw (i, t, e, q)
+
+  pub inked-set : {code p : ℕ} → ink ≡ 1 → code ≡ b .code → p ≡ b .color1
+      → dotted code p (b .reads) (b .foreground) (b .depth) d s frame ≡ inked b ink d s frame
+  unfolding inked
+  inked-set {code} {p} i e q = go (b .transparent)
+    where
+      go : (t : Bool) → dotted code p (b .reads) (b .foreground) (b .depth) d s frame
+          ≡ if t && (ink =? 0) then frame
+          else dotted (b .code) (if ink =? 1 then b .color1 else b .color0) (b .reads) (b .foreground) (b .depth) d s frame
+      go true = rw (i, e, q)
+      go false = rw (i, e, q)
+
+mono-skipped : (b : Blt) (k : ℕ) → b .mono ≡ true → skipped b k ≡ b .transparent && (inkBit b k =? 0)
 unfolding skipped
 mono-skipped b k e = rw e
 
-pub mono-value : (b : Blt) (k : ℕ) → b .mono ≡ true → patternValue b k ≡ if inkBit b k =? 1 then b .color1 else b .color0
+mono-value : (b : Blt) (k : ℕ) → b .mono ≡ true → patternValue b k ≡ if inkBit b k =? 1 then b .color1 else b .color0
 unfolding patternValue
 mono-value b k e = rw e
+
+pub mono-drawn : (b : Blt) → Depth (b .depth) → b .mono ≡ true → (k : ℕ) {ink d s : ℕ} (frame : List ℕ)
+    → ink ≡ inkBit b k → d ≡ toByte b k → s ≡ fromByte b k → inked b ink d s frame ≡ drawBlt b k frame
+unfolding inked
+mono-drawn b deep mono k frame i d s =
+    rw (i, d, s, ← mono-skipped b k mono, ← mono-value b k mono)
+    (⊎-elim (λ e. rw e (sym (skipped-none b k frame e))) (λ e. rw e (dot-drawn b deep k frame e)) (true-or-false (skipped b k)))
+
+pub ink-lt : (data0 data1 row column : ℕ) → patternBit data0 data1 row column < 2
+unfolding patternBit
+ink-lt data0 data1 row column = mod-lt _ (omega arith)
+
+-- the bit of pixel i of a row, by the pattern row of the row's first pixel
+pub ink-row : (b : Blt) (k i : ℕ) {row : ℕ} → k % b .width + i < b .width → row ≡ patternPlace (b .up) (b .row) (k / b .width)
+    → patternBit (b .data0) (b .data1) row (patternPlace (b .left) (b .column) (k % b .width + i)) ≡ inkBit b (k + i)
+unfolding inkBit
+ink-row b k i l e = rw (e, column-add (b .width) k i l, row-add (b .width) k i l)
 
 pub length-drawn : (b : Blt) (k : ℕ) (frame : List ℕ) → length (drawBlt b k frame) ≡ length frame
 unfolding drawBlt
@@ -164,10 +225,53 @@ pub record Row (size : ℕ) (b : Blt) (k n : ℕ) : Type 0 where
   pub row : k % b .width + n ≤ b .width
   pub small : size ≤ 16_777_216
 
--- the first of those that remain
-pub pixels-next : (b : Blt) (k n i : ℕ) (frame : List ℕ) → i < n
-    → bltPixels b (k + i) (n - i) frame ≡ bltPixels b (k + (i + 1)) (n - (i + 1)) (drawBlt b (k + i) frame)
-pixels-next b k n i frame l =
-    let d : n - i ≡ suc (n - (i + 1)) = omega arith in
-    let e : k + (i + 1) ≡ k + i + 1 = omega arith in
-    rw (d, e) (order-suc (drawBlt b) (k + i) (n - (i + 1)) frame)
+-- its pixel i, where the row's first pixel lies at `start` and this one `by` bytes on
+module _ {size : ℕ} {b : Blt} {k n : ℕ} (r : Row size b k n) {offset stride : ℕ} (p : Inside size b offset stride) {i start by : ℕ}
+    (l : i < n) (starts : start ≡ place b offset stride k) (goes : by ≡ i * b .depth) where
+  pub row-walk : Walk (b .left) start by
+  row-walk = rw (starts, goes) (place-walk p k i (r .start) (omega (arith, r .row)) (r .small))
+
+  pub row-place : {at : ℕ} → at ≡ walk (b .left) start by → at ≡ place b offset stride (k + i)
+  row-place e = e ∙ rw (starts, goes) (sym (place-on p k i (r .start) (omega (arith, r .row))))
+
+  pub row-in : {at : ℕ} → at ≡ walk (b .left) start by → {now : ℕ} → now ≡ size → at + b .depth ≤ now
+  row-in e s = omega (arith, row-place e, place-in p k i (r .start) (omega (arith, r .row)), s)
+
+-- the frame memory in the middle of a row: i of n pixels are drawn, and the rest remain to draw
+pub record Remain (b : Blt) (k n : ℕ) (first : List ℕ) (i by : ℕ) (frame : List ℕ) : Type 0 where
+  pub drawn : i ≤ n
+  pub goes : by ≡ i * b .depth
+  pub same : length frame ≡ length first
+  pub rest : bltPixels b k n first ≡ bltPixels b (k + i) (n - i) frame
+
+module _ {b : Blt} {k n : ℕ} where
+  pub remain-all : (frame : List ℕ) → Remain b k n frame 0 0 frame
+  remain-all frame =
+      let e : k + 0 ≡ k = omega arith in
+      let z : n - 0 ≡ n = omega arith in
+      record { drawn = omega arith; goes = omega arith; same = refl; rest = rw (e, z) }
+
+  pub remain-next : {first : List ℕ} {i by : ℕ} {frame next : List ℕ} → Remain b k n first i by frame → i < n
+      → next ≡ drawBlt b (k + i) frame → Remain b k n first (i + 1) (by + b .depth) next
+  remain-next {first} {i} {by} {frame} {next} m l e =
+      let d : n - i ≡ suc (n - (i + 1)) = omega arith in
+      let f : k + (i + 1) ≡ k + i + 1 = omega arith in
+      record {
+        drawn = omega arith;
+        goes = omega (arith, m .goes, add-mul i 1 (b .depth));
+        same = rw e (length-drawn b (k + i) frame ∙ m .same);
+        rest = rw (e, f) (m .rest ∙ rw d (order-suc (drawBlt b) (k + i) (n - (i + 1)) frame));
+      }
+
+  pub remain-none : {first : List ℕ} {i by : ℕ} {frame : List ℕ} → Remain b k n first i by frame → n ≤ i
+      → frame ≡ bltPixels b k n first
+  remain-none {first} {i} {by} {frame} m l =
+      let z : n - i ≡ 0 = omega arith in
+      sym (m .rest ∙ rw z (order-zero (drawBlt b) (k + i) frame))
+
+  -- what a step back from the end may add to `by`
+  pub remain-by : {size : ℕ} {first : List ℕ} {i by : ℕ} {frame : List ℕ} → Row size b k n → Remain b k n first i by frame → i < n
+      → by + b .depth ≤ 16_380
+  remain-by {i = i} r m l =
+      let x = across-most (r .fit .to) (i + 1) (omega (arith, r .row)) in
+      omega (arith, m .goes, add-mul i 1 (b .depth))

@@ -23,8 +23,8 @@ ahead-requires c κs = search needs
 ahead-requires-2 : tie.Need-ahead-requires-2
 ahead-requires-2 c κs = search needs
 
-add-rise : tie.Need-add-rise
-add-rise c = let m = pixel-most (c .before .before .before .pre .0 .ranged) _ (c .before .before .before .pre .1) in omega arith
+add-plus : tie.Need-add-plus
+add-plus c = let m = pixel-most (c .before .before .before .pre .0 .ranged) _ (c .before .before .before .pre .1) in omega arith
 
 behind-requires : tie.Need-behind-requires
 behind-requires c κs = search needs
@@ -32,8 +32,8 @@ behind-requires c κs = search needs
 behind-requires-2 : tie.Need-behind-requires-2
 behind-requires-2 c κs = search needs
 
-add-fall : tie.Need-add-fall
-add-fall c = let m = pixel-most (c .before .before .before .before .before .pre .0 .ranged) _ (c .before .before .before .before .before .pre .1) in omega arith
+add-minus : tie.Need-add-minus
+add-minus c = let m = pixel-most (c .before .before .before .before .before .pre .0 .ranged) _ (c .before .before .before .before .before .pre .1) in omega arith
 
 add-result : tie.Need-add-result
 add-result c = let m = pixel-most (c .before .before .before .before .before .pre .0 .ranged) _ (c .before .before .before .before .before .pre .1) in omega (arith, c .before .before .before .before .before .pre .0 .ranged .offset-most)
@@ -56,10 +56,10 @@ first-byte-spec =
     mul-along
     ahead-requires
     ahead-requires-2
-    add-rise
+    add-plus
     behind-requires
     behind-requires-2
-    add-fall
+    add-minus
     add-result
     sub-result
     returns)

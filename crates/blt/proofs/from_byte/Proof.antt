@@ -1,5 +1,3 @@
-use mathlib.Core.Path.{_∙_}
-use Rattle.laws.specs.Rows.{from-inside}
 use borrow.Author.Needs.{needs}
 use Rattle.blt.proofs.from_byte.Statement.{statement}
 use Rattle.blt.proofs.from_byte.Tie as tie
