@@ -1,2 +1,4 @@
 pub mod Unfit
 pub mod Loads
+pub mod Advances
+pub mod Runs

@@ -3,6 +3,7 @@ use Prim.Native.Nat.{ℕ, _+_, _-_, _≤_, _<_}
 use mathlib.Core.Path.{_≡_}
 use mathlib.Core.Bool.{not, _||_}
 use mathlib.Core.List.{List}
+use lib.ListN.{length}
 use Rattle.model.specs.Choice.{_=?_, if_then_else_}
 use Rattle.model.specs.Limits.{ringLeast, ringMost}
 use Rattle.model.specs.Unit.{commandRefusal, stopped, loadedCore, units}
@@ -55,6 +56,14 @@ pub record Advanced (ring : List ℕ) (s t : State) (before after : List ℕ) (l
   pub sound : Sound ring (t .write) (machineOf t after)
   pub same : (u : ℕ)
       → units ring (s .write) left u (machineOf s before) ≡ units ring (t .write) (left - used) (u + used) (machineOf t after)
+
+-- some of a budget's units are done, and the rest go on from there
+pub record Going (ring : List ℕ) (s t : State) (before now : List ℕ) (budget used : ℕ) : Type 0 where
+  pub most : used ≤ budget
+  pub sound : Sound ring (t .write) (machineOf t now)
+  pub write-kept : t .write ≡ s .write
+  pub length-kept : length now ≡ length before
+  pub same : units ring (s .write) budget 0 (machineOf s before) ≡ units ring (t .write) (budget - used) used (machineOf t now)
 
 -- all the units of a budget were done, or as many as could be
 pub record Finished (ring : List ℕ) (s t : State) (before after : List ℕ) (budget used : ℕ) : Type 0 where

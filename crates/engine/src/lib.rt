@@ -5,9 +5,12 @@ ghost use mathlib.Core.Bool.{true};
 ghost use Prim.Native.Nat.{_+_, _-_, _≤_, _<_};
 ghost use lib.ListN.{length};
 ghost use Rattle.model.specs.Unit.{ready, stopped, pixelCount, drawnCore, possible};
-ghost use Rattle.model.specs.Calls.{badStop, badPlace, unfit, freshState, accepted, refused, setup, publish, restart, askRoom, runWord};
+ghost use Rattle.model.specs.Calls.{badStop, badPlace, unfit, freshState, accepted, refused, setup, publish, restart, askRoom, runWord, run, runFrame};
+ghost use Rattle.laws.specs.Order.{pixels};
+ghost use Rattle.laws.specs.Sound.{Sound, machineOf};
+ghost use Rattle.model.specs.Judging.{judge};
 ghost use Rattle.model.specs.declared.Place.the-variants.{Drawing};
-ghost use Rattle.engine.specs.Turns.{lengthRefusal, FitCore, loadUnit, movedCore, runNumber};
+ghost use Rattle.engine.specs.Turns.{lengthRefusal, FitCore, loadUnit, movedCore, runNumber, Advanced, Finished};
 use model::Answer;
 use model::Core;
 use model::Kind;
@@ -312,10 +315,21 @@ fn drawn(c: Core, kind: Kind, k: usize) -> Core
     moved(c, registers, c.read, c.completion, Place::Drawing(kind, k))
 }
 
+// Draws n pixels of a command that judging accepts, from pixel k.
+fn paint(frame: &mut [u8], kind: Kind, registers: [u32; 17], k: usize, n: usize)
+    requires { ⌜ (judge kind registers (length (now frame)) ≡ 0) × (k + n ≤ pixelCount kind registers) × (length (now frame) ≤ 16777216) ⌝ }
+    ensures { λ _. ⌜ now (frame .exit) ≡ pixels kind registers k n (now (frame .entry)) ⌝ }
+{
+    match kind {
+        Kind::Blt => blt::draw(frame, blt::blt_of(registers), k, n),
+        Kind::Vector => vector::draw(frame, vector::vector_of(registers), k, n),
+    }
+}
+
 // How many of the pixels from k on a budget allows.
 fn span(kind: Kind, registers: [u32; 17], k: usize, left: u32) -> u32
     requires { ⌜ (k < pixelCount kind registers) × (0 < left) ⌝ }
-    ensures { λ r. ⌜ (0 < r) × (r ≤ left) × (k + r ≤ pixelCount kind registers) ⌝ }
+    ensures { λ r. ⌜ (0 < r) × (r ≤ left) × (k + r ≤ pixelCount kind registers) × (k + r ≤ 16769025) ⌝ }
 {
     let rest = judging::pixel_count(kind, registers) - k;
     let most = left as usize;
@@ -323,6 +337,63 @@ fn span(kind: Kind, registers: [u32; 17], k: usize, left: u32) -> u32
         return rest as u32;
     }
     left
+}
+
+// Units done in one go: one command's load, or a span of pixels.
+struct Turn {
+    state: State,
+    used: u32,
+}
+
+// Does the next units: a load, or as many pixels of the command in progress as the budget allows.
+fn advance(s: State, words: &[u32], frame: &mut [u8], left: u32) -> Turn
+    requires { ⌜ (Sound (now words) (s .write) (machineOf s (now frame))) × (possible (now words) (s .core) (s .write) ≡ true) × (0 < left) ⌝ }
+    ensures { λ r. ⌜ Advanced (now (words .entry)) s (r .state) (now (frame .entry)) (now (frame .exit)) left (r .used) ⌝ }
+{
+    let c = s.core;
+    let write = s.write;
+    let place = c.place;
+    match place {
+        Place::Idle => {
+            let d = load(c, words);
+            Turn {
+                state: State { core: d, write },
+                used: 1,
+            }
+        }
+        Place::Drawing(kind, k) => {
+            let registers = c.registers;
+            let n = span(kind, registers, k, left);
+            let more = n as usize;
+            paint(frame, kind, registers, k, more);
+            let d = drawn(c, kind, k + more);
+            Turn {
+                state: State { core: d, write },
+                used: n,
+            }
+        }
+    }
+}
+
+// Does units until no further one can be done or the budget is used.
+fn do_units(s: State, words: &[u32], frame: &mut [u8], budget: u32) -> Turn
+    requires { ⌜ Sound (now words) (s .write) (machineOf s (now frame)) ⌝ }
+    ensures { λ r. ⌜ Finished (now (words .entry)) s (r .state) (now (frame .entry)) (now (frame .exit)) budget (r .used) ⌝ }
+{
+    let mut t = s;
+    let mut used = 0;
+    while used < budget {
+        let more = is_possible(t, words);
+        if more {
+            let a = advance(t, words, frame, budget - used);
+            let next = a.state;
+            t = next;
+            used += a.used;
+        } else {
+            return Turn { state: t, used };
+        }
+    }
+    Turn { state: t, used }
 }
 
 // ---- run
@@ -359,4 +430,27 @@ fn run_refusal(s: State, ringlength: usize, framelength: usize) -> u32
         return 4;
     }
     4
+}
+
+// Does units, as many as the budget has, and reports how many they were and why it ends.
+pub fn run(words: &[u32], s: State, frame: &mut [u8], budget: u32) -> Answer
+    ensures { λ r. ⌜ (r ≡ run (now (words .entry)) s (now (frame .entry)) budget) × (now (frame .exit) ≡ runFrame (now (words .entry)) s (now (frame .entry)) budget) ⌝ }
+{
+    let no = run_refusal(s, words.len(), frame.len());
+    if no == 0 {
+        let t = do_units(s, words, frame, budget);
+        let after = t.state;
+        let word = word_of(after, words);
+        let c = after.core;
+        let left = ring::room_left(c.ringlength, c.read, after.write);
+        return Answer {
+            state: after,
+            reply: Reply::Ran {
+                word,
+                units: t.used,
+                room: left,
+            },
+        };
+    }
+    refuse(s, no)
 }

@@ -1,13 +1,13 @@
 -- Several pixels of one command at once are as many units.
-use Prim.Native.Nat.{ℕ, zero, suc, _+_, _-_, _≤_, _<_}
+use Prim.Native.Nat.{ℕ, zero, suc, _+_, _≤_, _<_}
 use mathlib.Core.Path.{_≡_, refl, sym, ap, _∙_}
-use mathlib.Core.Bool.{true, false, _||_}
+use mathlib.Core.Bool.{true, _||_}
 use mathlib.Core.List.{List}
 use native.Mathlib.Omega.{arith}
 use native.Mathlib.Nat.{suc-add, zero-add}
 use borrow.Author.Tests.{lt-leb, eq-eqb}
-use Rattle.model.specs.Choice.{_≤?_, or-left}
-use Rattle.model.specs.Unit.{Machine, pixelCount, drawPixel, drawnCore, unit, drawing, ready, possible, units}
+use Rattle.model.specs.Choice.{or-left}
+use Rattle.model.specs.Unit.{Machine, pixelCount, drawPixel, drawnCore, drawing, ready, possible, units}
 use Rattle.model.specs.Steps.{unit-draws}
 use Rattle.model.specs.declared.Core.{Core}
 use Rattle.model.specs.declared.Kind.{Kind}

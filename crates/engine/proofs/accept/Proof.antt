@@ -1,4 +1,3 @@
-use mathlib.Core.Path.{refl}
 use borrow.Author.Needs.{needs}
 use Rattle.engine.proofs.accept.Statement.{statement}
 use Rattle.engine.proofs.accept.Tie as tie

@@ -1,4 +1,3 @@
-use mathlib.Core.Path.{refl}
 use borrow.Author.Tests.{eq-eqb, ne-eqb, lt-ltb, le-ltb}
 use Rattle.engine.proofs.bad_stop.Statement.{statement}
 use Rattle.engine.proofs.bad_stop.Tie as tie

@@ -1,6 +1,6 @@
 use mathlib.Core.Path.{sym, _∙_}
 use Rattle.laws.specs.Spans.{drawing-possible, idle-possible}
-use borrow.Author.Tests.{eq-eqb, ne-eqb}
+use borrow.Author.Tests.{ne-eqb}
 use Rattle.model.specs.Unit.{possible}
 use borrow.Author.Needs.{needs}
 use Rattle.engine.proofs.is_possible.Statement.{statement}

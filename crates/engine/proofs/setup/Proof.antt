@@ -1,7 +1,7 @@
 use mathlib.Core.Path.{sym, ap, _∙_}
-use Rattle.model.specs.Calls.{freshState, refused, accepted}
+use Rattle.model.specs.Calls.{refused, accepted}
 use Rattle.engine.proofs.Unfit.{setup-refused, setup-accepted, ring-some}
-use mathlib.Core.Path.{refl, sym, _∙_}
+use mathlib.Core.Path.{sym, _∙_}
 use borrow.Author.Needs.{needs}
 use Rattle.engine.proofs.setup.Statement.{statement}
 use Rattle.engine.proofs.setup.Tie as tie
