@@ -1,8 +1,6 @@
 -- Each field of the vector is the register field that the definition names.
 use Prim.Native.Nat.{ℕ}
 use mathlib.Core.Path.{_≡_, refl, ap, _∙_}
-use mathlib.Core.Bool.{Bool}
-use lib.IntN.{ℤ}
 use Rattle.model.specs.Formats.{formatOf, depthOf}
 use Rattle.model.specs.declared.Vector.{Vector}
 use mir.Syntax.{w16}
@@ -91,30 +89,41 @@ array-read-t38 : tie.Need-array-read-t38
 array-read-t38 c = search needs
 
 -- two vectors with the same fields
-same : {depth depth′ length length′ offset offset′ stride stride′ : ℕ} {axial axial′ diagonal diagonal′ initial initial′ : ℤ}
-    {ymajor ymajor′ majorup majorup′ minorup minorup′ : Bool} {code code′ foreground foreground′ color color′ : ℕ}
-    → depth ≡ depth′
-    → length ≡ length′
-    → offset ≡ offset′
-    → stride ≡ stride′
-    → axial ≡ axial′
-    → diagonal ≡ diagonal′
-    → initial ≡ initial′
-    → ymajor ≡ ymajor′
-    → majorup ≡ majorup′
-    → minorup ≡ minorup′
-    → code ≡ code′
-    → foreground ≡ foreground′
-    → color ≡ color′
-    → _≡_ {A = Vector}
-    (record { depth = depth; length = length; offset = offset; stride = stride; axial = axial; diagonal = diagonal; initial = initial; ymajor = ymajor; majorup = majorup; minorup = minorup; code = code; foreground = foreground; color = color })
-    (record { depth = depth′; length = length′; offset = offset′; stride = stride′; axial = axial′; diagonal = diagonal′; initial = initial′; ymajor = ymajor′; majorup = majorup′; minorup = minorup′; code = code′; foreground = foreground′; color = color′ })
-same a b c d e f g h i j k l m = cc
+same : (v w : Vector)
+    → v .depth ≡ w .depth
+    → v .length ≡ w .length
+    → v .offset ≡ w .offset
+    → v .stride ≡ w .stride
+    → v .axial ≡ w .axial
+    → v .diagonal ≡ w .diagonal
+    → v .initial ≡ w .initial
+    → v .ymajor ≡ w .ymajor
+    → v .majorup ≡ w .majorup
+    → v .minorup ≡ w .minorup
+    → v .code ≡ w .code
+    → v .foreground ≡ w .foreground
+    → v .color ≡ w .color
+    → v ≡ w
+same v w a b c d e f g h i j k l m = λ t. record {
+  depth = a t;
+  length = b t;
+  offset = c t;
+  stride = d t;
+  axial = e t;
+  diagonal = f t;
+  initial = g t;
+  ymajor = h t;
+  majorup = i t;
+  minorup = j t;
+  code = k t;
+  foreground = l t;
+  color = m t;
+}
 
 returns : tie.Need-returns
 unfolding vectorOf
 returns c =
-    same
+    same _ _
     (c .before .before .before .before .before .before .before .before .before .before .before .before .before .depth-of .ensures ∙ ap (λ (x : ℕ). depthOf (formatOf x)) (c .before .before .before .before .before .before .before .before .before .before .before .before .before .before .bits .ensures .0))
     (c .before .before .before .before .before .before .before .before .before .bits5 .ensures .0)
     (c .before .before .before .before .before .before .before .before .before .before .before .bits3 .ensures .0)
