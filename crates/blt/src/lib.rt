@@ -12,7 +12,7 @@ ghost use Rattle.model.specs.Bounds.{added, taken};
 ghost use Rattle.model.specs.BltPixel.{bltOf, rectangleOutside};
 ghost use Rattle.laws.specs.Order.{bltPixels};
 ghost use Rattle.laws.specs.Ranges.{Ranged, FitBlt};
-ghost use Rattle.laws.specs.Rows.{Inside, place, walk, Walk, toByte, fromByte, dotted, inked, Row};
+ghost use Rattle.laws.specs.Rows.{Inside, place, walk, Walk, toByte, fromByte, Within, dotted, inked, Row};
 ghost use Rattle.laws.specs.Fills.{stamped, lowest};
 ghost use Rattle.pixel.specs.Prepared.{Prepared};
 ghost use Rattle.blt.specs.Ready.{Ready};
@@ -197,7 +197,7 @@ fn source(f: &[u8], reads: bool, foreground: u32, depth: usize, at: usize) -> u3
 
 // Draws the pixel at byte d, its source at byte s.
 fn dot(f: &mut [u8], op: Operation, reads: bool, foreground: u32, depth: usize, d: usize, s: usize)
-    requires { ⌜ (Prepared op) × (Depth depth) × (d + depth ≤ length (now f)) × (s + depth ≤ length (now f)) ⌝ }
+    requires { ⌜ (Prepared op) × (Within (length (now f)) depth d s) ⌝ }
     ensures { λ _. ⌜ now (f .exit) ≡ dotted (op .code) (op .pattern) reads foreground depth d s (now (f .entry)) ⌝ }
 {
     let value = source(f, reads, foreground, depth, s);
@@ -218,7 +218,7 @@ fn ink_of(b: Blt, row: usize, i: usize) -> u32
 // Draws the pixel of a mono pattern at byte d, its source at byte s: a set bit by `set`, a clear bit by `clear`, or not at all
 // with transparency.
 fn mono_dot(f: &mut [u8], b: Blt, ink: u32, clear: Operation, set: Operation, d: usize, s: usize)
-    requires { ⌜ (ink < 2) × (Ready (b .code) (b .color0) clear) × (Ready (b .code) (b .color1) set) × (Depth (b .depth)) × (d + b .depth ≤ length (now f)) × (s + b .depth ≤ length (now f)) ⌝ }
+    requires { ⌜ (ink < 2) × (Ready (b .code) (b .color0) clear) × (Ready (b .code) (b .color1) set) × (Within (length (now f)) (b .depth) d s) ⌝ }
     ensures { λ _. ⌜ now (f .exit) ≡ inked b ink d s (now (f .entry)) ⌝ }
 {
     if ink == 0 {

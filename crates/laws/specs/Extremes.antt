@@ -70,13 +70,13 @@ lowest-lt false n h = h
 
 module _ (size : ℕ) (b : Blt) (offset stride : ℕ) (r : Ranged b offset stride) where
   -- every pixel lies between the extremes
-  pub plus-most : (k : ℕ) → k < b .width * b .height → plus b stride k ≤ rise b stride
+  plus-most : (k : ℕ) → k < b .width * b .height → plus b stride k ≤ rise b stride
   plus-most k l =
       add-le-add
       (added-le (b .left) (mul-le-mul-right (b .depth) (omega (arith, mod-lt k (r .wide)))))
       (added-le (b .up) (mul-le-mul-right stride (omega (arith, row-lt (b .width) (b .height) k (r .wide) l))))
 
-  pub minus-most : (k : ℕ) → k < b .width * b .height → minus b stride k ≤ fall b stride
+  minus-most : (k : ℕ) → k < b .width * b .height → minus b stride k ≤ fall b stride
   minus-most k l =
       add-le-add
       (taken-le (b .left) (mul-le-mul-right (b .depth) (omega (arith, mod-lt k (r .wide)))))

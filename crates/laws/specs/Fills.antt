@@ -31,11 +31,6 @@ stamped-down depth value zero a frame = frame
 stamped-down depth value (suc n) a frame = stamped-down depth value n (a - depth) (storePixel depth frame a value)
 
 module _ (depth value : ℕ) where
-  pub stamped-length : (n a : ℕ) (frame : List ℕ) → length (stamped depth value n a frame) ≡ length frame
-  unfolding stamped
-  stamped-length zero a frame = refl
-  stamped-length (suc n) a frame = stamped-length n (a + depth) _ ∙ length-store depth frame a value
-
   -- a row writer that is lent a part of frame memory leaves the rest as it is
   after : (xs ys : List ℕ) (i v : ℕ) → set (xs ++ ys) (length xs + i) v ≡ xs ++ set ys i v
   after [] ys i v = let e : 0 + i ≡ i = omega arith in rw e
@@ -72,7 +67,7 @@ module _ (depth value : ℕ) where
       rw (store-before depth xs ys i value (omega arith))
       (stamped-before n (storePixel depth xs i value) ys (i + depth) (rw (length-store depth xs i value) (omega arith)))
 
-  pub stamped-part : (n a m : ℕ) (frame : List ℕ) → a + m ≤ length frame → n * depth ≤ m
+  stamped-part : (n a m : ℕ) (frame : List ℕ) → a + m ≤ length frame → n * depth ≤ m
       → take a frame ++ (stamped depth value n 0 (take m (drop a frame)) ++ drop m (drop a frame)) ≡ stamped depth value n a frame
   stamped-part n a m frame h l =
       let rest = drop a frame in

@@ -51,7 +51,7 @@ module _ {b : Blt} {offset stride : ℕ} (r : Ranged b offset stride) where
   pub across-most : (i : ℕ) → i ≤ b .width → i * b .depth ≤ 16_380
   across-most i l = mul-le-mul (let m : i ≤ 4095 = omega (arith, r .wide-most) in m) (depth-most (r .deep))
 
-  pub along-most : (j : ℕ) → j < b .height → j * stride ≤ 268_300_290
+  along-most : (j : ℕ) → j < b .height → j * stride ≤ 268_300_290
   along-most j l =
       mul-le-mul (let m : j ≤ 4094 = omega (arith, r .high-most) in m) (let m : stride ≤ 65_535 = omega (arith, r .stride-most) in m)
 

@@ -72,7 +72,7 @@ module _ {size : ℕ} {b : Blt} {offset stride : ℕ} (r : Inside size b offset 
       (rw (column-add (b .width) k m row, row-add (b .width) k m row)
       at (pixel-low size b offset stride (r .ranged) (r .inside) (k + m) (number-add (b .width) k m row (b .height) start)))
 
-  pub place-walk : size ≤ 16_777_216 → Walk (b .left) (place b offset stride k) (m * b .depth)
+  place-walk : size ≤ 16_777_216 → Walk (b .left) (place b offset stride k) (m * b .depth)
   place-walk small = record {
     back = place-back;
     start-most = omega (arith, pixel-in size b offset stride (r .ranged) (r .inside) k start);
@@ -113,16 +113,17 @@ from-inside {size} {b} fit = go (b .reads) refl
 
 -- ---- what a pixel draws
 
+-- a pixel at byte d and its source at byte s lie in frame memory
+pub record Within (size depth d s : ℕ) : Type 0 where
+  pub deep : Depth depth
+  pub to-in : d + depth ≤ size
+  pub from-in : s + depth ≤ size
+
 -- the pixel at byte d with pattern value p and its source at byte s
 unfoldable pub dotted : (code p : ℕ) (reads : Bool) (foreground depth d s : ℕ) → List ℕ → List ℕ
 dotted code p reads foreground depth d s frame =
     storePixel depth frame d
     (raster 32 code p (if reads then readPixel depth frame s else foreground) (readPixel depth frame d))
-
-pub length-dotted : (code p : ℕ) (reads : Bool) (foreground depth d s : ℕ) (frame : List ℕ)
-    → length (dotted code p reads foreground depth d s frame) ≡ length frame
-unfolding dotted
-length-dotted code p reads foreground depth d s frame = length-store depth frame d _
 
 source-from : (b : Blt) (k : ℕ) (frame : List ℕ)
     → if b .reads then readPixel (b .depth) frame (fromByte b k) else b .foreground
@@ -131,7 +132,7 @@ unfolding sourceValue sourceByte
 source-from b k frame = ⊎-elim (λ e. rw e) (λ e. rw e) (true-or-false (b .reads))
 
 module _ (b : Blt) (deep : Depth (b .depth)) (k : ℕ) (frame : List ℕ) where
-  pub dot-drawn : skipped b k ≡ false
+  dot-drawn : skipped b k ≡ false
       → dotted (b .code) (patternValue b k) (b .reads) (b .foreground) (b .depth) (toByte b k) (fromByte b k) frame
       ≡ drawBlt b k frame
   unfolding dotted drawBlt destinationByte
@@ -269,7 +270,7 @@ module _ {b : Blt} {k n : ℕ} where
       let z : n - i ≡ 0 = omega arith in
       sym (m .rest ∙ rw z (order-zero (drawBlt b) (k + i) frame))
 
-  -- what a step back from the end may add to `by`
+  -- the bytes walked along a row are few
   pub remain-by : {size : ℕ} {first : List ℕ} {i by : ℕ} {frame : List ℕ} → Row size b k n → Remain b k n first i by frame → i < n
       → by + b .depth ≤ 16_380
   remain-by {i = i} r m l =

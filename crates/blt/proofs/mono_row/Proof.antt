@@ -59,9 +59,11 @@ mono-dot-requires c κs =
       c .before .before .before .ink-of .ensures .1,
       c .before .before .before .before .before .before .before .before .before .before .prepare .ensures,
       c .before .before .before .before .before .before .before .before .before .prepare2 .ensures,
-      r .fit .to .deep,
-      row-in r (to-inside (r .fit)) l (c .before .before .before .before .before .before .before .before .to-byte .ensures) (m .goes) (c .before .before .walk-on .ensures) (m .same),
-      row-in r (from-inside (r .fit)) l (c .before .before .before .before .before .before .before .from-byte .ensures) (m .goes) (c .before .walk-on2 .ensures) (m .same),
+      record {
+        deep = r .fit .to .deep;
+        to-in = row-in r (to-inside (r .fit)) l (c .before .before .before .before .before .before .before .before .to-byte .ensures) (m .goes) (c .before .before .walk-on .ensures) (m .same);
+        from-in = row-in r (from-inside (r .fit)) l (c .before .before .before .before .before .before .before .from-byte .ensures) (m .goes) (c .before .walk-on2 .ensures) (m .same);
+      },
     )
 
 add-by : tie.Need-add-by Inv-loop μ-loop

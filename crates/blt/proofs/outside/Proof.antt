@@ -28,7 +28,7 @@ add-fall : tie.Need-add-fall
 add-fall c = let m = last-most (c .before .before .before .before .before .pre) in omega arith
 
 returns : tie.Need-returns
-returns c = sym (low-out _ _ _ _ (c .before .before .before .before .before .before .pre) (rw (← c .before .before .behind .ensures .0, ← c .before .behind2 .ensures .0) (c .if1 .taken)))
+returns c = sym (low-out _ _ _ _ (c .before .before .before .before .before .before .pre) (omega (arith, c .before .before .behind .ensures .0, c .before .behind2 .ensures .0)))
 
 ahead-requires : tie.Need-ahead-requires
 ahead-requires c κs = search needs
@@ -46,12 +46,13 @@ add-if2-2 : tie.Need-add-if2-2
 add-if2-2 c = let m = last-most (c .before .before .before .before .before .before .before .before .before .pre) in omega (arith, c .before .before .before .before .before .before .before .before .before .pre .offset-most)
 
 returns-2 : tie.Need-returns-2
-returns-2 c = sym (high-out _ _ _ _ (c .before .before .before .before .before .before .before .before .before .before .pre) (rw (← c .before .before .before .ahead .ensures .0, ← c .before .before .ahead2 .ensures .0) (c .if2 .taken)))
+returns-2 c = sym (high-out _ _ _ _ (c .before .before .before .before .before .before .before .before .before .before .pre) (omega (arith, c .before .before .before .ahead .ensures .0, c .before .before .ahead2 .ensures .0)))
 
 returns-3 : tie.Need-returns-3
-returns-3 c = sym
-    (all-in _ _ _ _ (c .before .before .before .before .before .before .before .before .before .before .pre) (rw (← c .before .before .before .before .before .before .behind .ensures .0, ← c .before .before .before .before .before .behind2 .ensures .0) (omega arith))
-    (rw (← c .before .before .before .ahead .ensures .0, ← c .before .before .ahead2 .ensures .0) (omega arith)))
+returns-3 c =
+    sym
+    (all-in _ _ _ _ (c .before .before .before .before .before .before .before .before .before .before .pre) (omega (arith, c .before .before .before .before .before .before .behind .ensures .0, c .before .before .before .before .before .behind2 .ensures .0))
+    (omega (arith, c .before .before .before .ahead .ensures .0, c .before .before .ahead2 .ensures .0)))
 
 pub outside-spec : {M : Type 1} → statement M
 outside-spec =

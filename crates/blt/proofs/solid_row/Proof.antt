@@ -29,7 +29,7 @@ dot-requires c κs =
     let r = c .before .before .before .before .before .before .before .pre .0 in
     let m = c .before .before .before .loop .inv in
     let e = row-in r (to-inside (r .fit)) (c .before .before .loop-test .taken) (c .before .before .before .before .to-byte .ensures) (m .goes) (c .before .walk-on .ensures) (m .same) in
-    (c .before .before .before .before .before .prepare .ensures .0, r .fit .to .deep, e, e)
+    (c .before .before .before .before .before .prepare .ensures .0, record { deep = r .fit .to .deep; to-in = e; from-in = e })
 
 add-by : tie.Need-add-by Inv-loop μ-loop
 add-by c = omega (arith, remain-by (c .before .before .before .before .before .before .before .before .before .before .before .pre .0) (c .before .before .before .before .before .before .before .loop .inv) (c .before .before .before .before .before .before .loop-test .taken))

@@ -36,9 +36,11 @@ dot-requires c κs =
     let l = c .before .before .before .loop-test .taken in
     let m = c .before .before .before .before .loop .inv in (
       c .before .before .before .before .before .before .before .prepare .ensures .0,
-      r .fit .to .deep,
-      row-in r (to-inside (r .fit)) l (c .before .before .before .before .before .before .to-byte .ensures) (m .goes) (c .before .before .walk-on .ensures) (m .same),
-      row-in r (from-inside (r .fit)) l (c .before .before .before .before .before .from-byte .ensures) (m .goes) (c .before .walk-on2 .ensures) (m .same),
+      record {
+        deep = r .fit .to .deep;
+        to-in = row-in r (to-inside (r .fit)) l (c .before .before .before .before .before .before .to-byte .ensures) (m .goes) (c .before .before .walk-on .ensures) (m .same);
+        from-in = row-in r (from-inside (r .fit)) l (c .before .before .before .before .before .from-byte .ensures) (m .goes) (c .before .walk-on2 .ensures) (m .same);
+      },
     )
 
 add-by : tie.Need-add-by Inv-loop μ-loop
