@@ -1,67 +1,75 @@
+use mathlib.Core.Path.{ap}
+use Rattle.drive.proofs.Lists.{standing, rest, one-call, no-call, all-calls}
+use Prim.Native.Nat.{ℕ, _-_, _*_, _≤_}
+use mathlib.Core.Path.{_≡_, refl, sym, _∙_}
+use native.Mathlib.Omega.{arith}
+use borrow.Author.Needs.{needs}
+use lib.ListN.{length}
+use denote.Ref.{now}
 use Rattle.drive.proofs.drive.Statement.{statement}
 use Rattle.drive.proofs.drive.Tie as tie
-use Rattle.drive.proofs.drive.Reads as reads
-use Rattle.drive.proofs.drive.Lts as lts
-use Rattle.drive.proofs.perform.Reads as perform-reads
-use Rattle.drive.proofs.units.Reads as units-reads
 
 abbrev Inv-loop : tie.InvT-loop
-Inv-loop kinds values words frame₀ t₀ sum₀ i₀ frame t sum i = ?
+Inv-loop kinds values words frame₀ t₀ sum₀ i₀ frame t sum i =
+    (i ≤ length kinds) × (sum ≤ 4294967295 * i) × (length frame ≡ length frame₀)
+    × (rest words kinds values (length kinds) 0 (standing t₀ frame₀ 0) ≡ rest words kinds values (length kinds) i (standing t frame sum))
 
 abbrev μ-loop : tie.MeasureT-loop
-μ-loop kinds values words frame₀ t₀ sum₀ i₀ frame t sum i = ?
+μ-loop kinds values words frame₀ t₀ sum₀ i₀ frame t sum i = length kinds - i
 
--- src/lib.rt:58:5
 loop-holds : tie.Need-loop-holds Inv-loop μ-loop
-loop-holds c = ?
+loop-holds c = (omega arith, omega arith, refl, refl)
 
--- src/lib.rt:59:20
 shared-slice-read-kind : tie.Need-shared-slice-read-kind Inv-loop μ-loop
-shared-slice-read-kind c = ?
+shared-slice-read-kind c = omega arith
 
--- src/lib.rt:60:21
 mul-value : tie.Need-mul-value Inv-loop μ-loop
-mul-value c = ?
+mul-value c = omega arith
 
--- src/lib.rt:60:21
 shared-slice-read-value : tie.Need-shared-slice-read-value Inv-loop μ-loop
-shared-slice-read-value c = ?
+shared-slice-read-value c = omega arith
 
--- src/lib.rt:61:13
 perform-requires : tie.Need-perform-requires Inv-loop μ-loop
-perform-requires c κs = ?
+perform-requires c κs = search needs
 
--- src/lib.rt:65:16
 units-requires : tie.Need-units-requires Inv-loop μ-loop
-units-requires c κs = ?
+units-requires c κs = search needs
 
--- src/lib.rt:65:16
 cast-sum : tie.Need-cast-sum Inv-loop μ-loop
-cast-sum c = ?
+cast-sum c = search needs
 
--- src/lib.rt:65:9
 add-sum : tie.Need-add-sum Inv-loop μ-loop
-add-sum c = ?
+add-sum c = omega arith
 
--- src/lib.rt:66:9
 add-i : tie.Need-add-i Inv-loop μ-loop
-add-i c = ?
+add-i c = omega arith
 
--- src/lib.rt:58:5
 loop-less : tie.Need-loop-less Inv-loop μ-loop
-loop-less c = ?
+loop-less c = omega arith
 
--- src/lib.rt:58:5
 loop-again : tie.Need-loop-again Inv-loop μ-loop
-loop-again c = ?
+loop-again c =
+    let l = c .before .before .before .before .before .before .before .before .before .loop in
+    let a = c .before .before .before .before .before .before .before .before .before .before .before .before .before .before .args in (
+      omega arith,
+      omega arith,
+      c .before .before .before .before .perform .kept .1 .1 .1 .1 .0 ∙ l .inv .2,
+      l .inv .3
+          ∙ rw (c .units .ensures, c .before .before .before .before .perform .ensures .0, c .before .before .before .before .perform .ensures .1)
+          (one-call (now (a .words)) (now (a .kinds)) (now (a .values)) (length (now (a .kinds))) (l .i) (l .t) (l .frame) (l .sum) (c .before .before .before .before .before .before .before .before .loop-test .taken)),
+    )
 
--- src/lib.rt:51:1
 same-length : tie.Need-same-length Inv-loop μ-loop
-same-length c = ?
+same-length c = c .before .loop .inv .2
 
--- src/lib.rt:51:1
 returns : tie.Need-returns Inv-loop μ-loop
-returns c = ?
+returns c =
+    let l = c .before .loop in
+    let a = c .before .before .before .before .before .before .args in
+    let e : l .i ≡ length (now (a .kinds)) = omega arith in
+    sym (all-calls (now (a .words)) (now (a .kinds)) (now (a .values)) (length (now (a .kinds))) _ ∙ l .inv .3
+    ∙ ap (λ (i : ℕ). rest (now (a .words)) (now (a .kinds)) (now (a .values)) (length (now (a .kinds))) i (standing (l .t) (l .frame) (l .sum))) e
+    ∙ no-call (now (a .words)) (now (a .kinds)) (now (a .values)) (length (now (a .kinds))) _)
 
 pub drive-spec : {M : Type 1} → statement M
 drive-spec =
