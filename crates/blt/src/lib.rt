@@ -3,11 +3,10 @@ ghost use mathlib.Core.Path.{_≡_};
 ghost use mathlib.Core.Bool.{true, false};
 ghost use Prim.Native.Nat.{_+_, _-_, _*_, _/_, _≤_, _<_};
 ghost use lib.ListN.{length};
-ghost use Rattle.model.specs.Choice.{_=?_, if_then_else_};
+ghost use Rattle.model.specs.Choice.{if_then_else_};
 ghost use Rattle.model.specs.Pixel.{readPixel};
 ghost use Rattle.model.specs.Pattern.{patternBit, patternPlace};
-ghost use Rattle.model.specs.Bits.{field};
-ghost use Rattle.model.specs.Formats.{Depth, formatOf, depthOf};
+ghost use Rattle.model.specs.Formats.{Depth};
 ghost use Rattle.model.specs.Bounds.{added, taken};
 ghost use Rattle.model.specs.BltPixel.{bltOf, rectangleOutside};
 ghost use Rattle.laws.specs.Order.{bltPixels};
@@ -17,7 +16,6 @@ ghost use Rattle.laws.specs.Fills.{stamped, lowest};
 ghost use Rattle.pixel.specs.Prepared.{Prepared};
 ghost use Rattle.blt.specs.Ready.{Ready};
 use model::Blt;
-use model::Format;
 use pixel::Operation;
 
 // ---- the registers
@@ -45,24 +43,6 @@ const PAT_DATA_1: usize = 10;
 
 const BLT_MODE: usize = 15;
 
-// Bits high:low of a word, as a size or a place.
-fn number(word: u32, high: u32, low: u32) -> usize
-    requires { ⌜ (low ≤ high) × (high < 32) × (high < low + 31) ⌝ }
-    ensures { λ r. ⌜ r ≡ field word high low ⌝ }
-{
-    fields::bits(word, high, low) as usize
-}
-
-// The bytes a pixel of a colour format's code, 0 where the code is refused.
-fn depth_of(code: u32) -> usize
-    ensures { λ r. ⌜ r ≡ depthOf (formatOf code) ⌝ }
-{
-    match fields::format(code) {
-        Format::Bytes(n) => n,
-        Format::Refused => 0,
-    }
-}
-
 // The BLT that the registers describe.
 pub fn blt_of(registers: [u32; 17]) -> Blt
     ensures { λ r. ⌜ r ≡ bltOf registers ⌝ }
@@ -74,16 +54,16 @@ pub fn blt_of(registers: [u32; 17]) -> Blt
     let size = registers[WID_HEIGHT];
     let mode = registers[BLT_MODE];
     Blt {
-        depth: depth_of(fields::bits(raster_mode, 31, 28)),
-        width: number(size, 27, 16),
-        height: number(size, 11, 0),
+        depth: fields::depth_of(fields::bits(raster_mode, 31, 28)),
+        width: fields::number(size, 27, 16),
+        height: fields::number(size, 11, 0),
         left: fields::is_set(mode, 9),
         up: fields::is_set(mode, 8),
-        offset: number(dst_offset, 23, 0),
-        stride: number(strides, 15, 0),
+        offset: fields::number(dst_offset, 23, 0),
+        stride: fields::number(strides, 15, 0),
         reads: fields::bits(mode, 1, 0) == 0b01,
-        srcoffset: number(src_offset, 23, 0),
-        srcstride: number(strides, 31, 16),
+        srcoffset: fields::number(src_offset, 23, 0),
+        srcstride: fields::number(strides, 31, 16),
         foreground: registers[SRC_COLOR_FG],
         code: fields::bits(raster_mode, 7, 0),
         mono: fields::bits(raster_mode, 9, 8) == 0b01,
@@ -92,8 +72,8 @@ pub fn blt_of(registers: [u32; 17]) -> Blt
         color1: registers[PAT_COLOR_1],
         data0: registers[PAT_DATA_0],
         data1: registers[PAT_DATA_1],
-        row: number(dst_offset, 31, 29),
-        column: number(dst_offset, 28, 26),
+        row: fields::number(dst_offset, 31, 29),
+        column: fields::number(dst_offset, 28, 26),
     }
 }
 

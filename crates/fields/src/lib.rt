@@ -2,7 +2,7 @@
 ghost use mathlib.Core.Path.{_≡_};
 ghost use Prim.Native.Nat.{_+_, _-_, _^_, _<_, _≤_};
 ghost use Rattle.model.specs.Bits.{field, set?};
-ghost use Rattle.model.specs.Formats.{formatOf};
+ghost use Rattle.model.specs.Formats.{formatOf, depthOf};
 ghost use Rattle.model.specs.Completion.{retired};
 use model::Format;
 
@@ -13,6 +13,14 @@ pub fn bits(word: u32, high: u32, low: u32) -> u32
 {
     let width = high + 1 - low;
     (word >> low) % (1 << width)
+}
+
+// The same as a size or a place.
+pub fn number(word: u32, high: u32, low: u32) -> usize
+    requires { ⌜ (low ≤ high) × (high < 32) × (high < low + 31) ⌝ }
+    ensures { λ r. ⌜ (r ≡ field word high low) × (r < 2 ^ (high + 1 - low)) ⌝ }
+{
+    bits(word, high, low) as usize
 }
 
 // Whether bit i of a word is set.
@@ -34,6 +42,16 @@ pub fn format(code: u32) -> Format
         0b0110 => Format::Bytes(2),
         0b1000 => Format::Bytes(4),
         _ => Format::Refused,
+    }
+}
+
+// The bytes a pixel of a colour format's code; 0 where the code is refused.
+pub fn depth_of(code: u32) -> usize
+    ensures { λ r. ⌜ r ≡ depthOf (formatOf code) ⌝ }
+{
+    match format(code) {
+        Format::Bytes(n) => n,
+        Format::Refused => 0,
     }
 }
 

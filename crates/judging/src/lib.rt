@@ -184,20 +184,14 @@ pub fn refusal(kind: Kind, registers: [u32; 17], framelength: usize) -> u32
     }
 }
 
-fn wide(x: u32) -> usize
-    ensures { λ r. ⌜ r ≡ x ⌝ }
-{
-    x as usize
-}
-
 // How many pixels a command has.
 pub fn pixel_count(kind: Kind, registers: [u32; 17]) -> usize
     ensures { λ r. ⌜ (r ≡ pixelCount kind registers) × (r ≤ 16769025) ⌝ }
 {
     let size = registers[WID_HEIGHT];
-    let width = wide(fields::bits(size, 27, 16));
+    let width = fields::number(size, 27, 16);
     match kind {
-        Kind::Blt => width * wide(fields::bits(size, 11, 0)),
+        Kind::Blt => width * fields::number(size, 11, 0),
         Kind::Vector => width,
     }
 }

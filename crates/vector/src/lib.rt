@@ -1,5 +1,4 @@
 // Vectors: the registers that describe one, the steps from pixel to pixel, the bytes that it reaches, and its drawing.
-use model::Format;
 use model::Spot;
 use model::Vector;
 use pixel::Operation;
@@ -9,7 +8,7 @@ ghost use Prim.Native.Nat.{_+_, _*_, _^_, _≤_, _<_};
 ghost use lib.ListN.{length};
 ghost use lib.IntN.{pos};
 ghost use lib.Signed.{ltZ};
-ghost use Rattle.model.specs.Formats.{Depth, formatOf, depthOf};
+ghost use Rattle.model.specs.Formats.{Depth};
 ghost use Rattle.model.specs.Pixel.{readPixel, storePixel};
 ghost use Rattle.model.specs.Raster.{raster};
 ghost use Rattle.model.specs.VectorPixel.{signed16, vectorOf, majorStep, minorStep, moved, step, spot, vectorOutside};
@@ -47,17 +46,6 @@ fn signed(x: u32) -> i16
     (x as i32 - 65536) as i16
 }
 
-// The bytes a pixel of a colour format's code; 0 where the format is refused.
-fn depth_of(code: u32) -> usize
-    ensures { λ r. ⌜ r ≡ depthOf (formatOf code) ⌝ }
-{
-    let decision = fields::format(code);
-    match decision {
-        Format::Bytes(n) => n,
-        Format::Refused => 0,
-    }
-}
-
 // The vector that the registers describe.
 pub fn vector_of(registers: [u32; 17]) -> Vector
     ensures { λ r. ⌜ r ≡ vectorOf registers ⌝ }
@@ -66,7 +54,7 @@ pub fn vector_of(registers: [u32; 17]) -> Vector
     let terms = registers[VEC_ERR];
     let size = registers[VEC_LEN];
     let mode = registers[VECTOR_MODE];
-    let depth = depth_of(fields::bits(raster, 31, 28));
+    let depth = fields::depth_of(fields::bits(raster, 31, 28));
     let code = fields::bits(raster, 7, 0);
     let offset = fields::bits(registers[DST_OFFSET], 23, 0);
     let stride = fields::bits(registers[STRIDE], 15, 0);

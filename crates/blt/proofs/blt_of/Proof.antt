@@ -92,20 +92,20 @@ returns : tie.Need-returns
 returns c =
     described _
     (c .before .before .before .before .before .before .before .before .before .before .before .before .before .before .depth-of .ensures ∙ ap (λ (x : ℕ). depthOf (formatOf x)) (c .before .before .before .before .before .before .before .before .before .before .before .before .before .before .before .bits .ensures .0))
-    (c .before .before .before .before .before .before .before .before .before .before .before .before .before .number .ensures)
-    (c .before .before .before .before .before .before .before .before .before .before .before .before .number2 .ensures)
+    (c .before .before .before .before .before .before .before .before .before .before .before .before .before .number .ensures .0)
+    (c .before .before .before .before .before .before .before .before .before .before .before .before .number2 .ensures .0)
     (c .before .before .before .before .before .before .before .before .before .before .before .is-set .ensures)
     (c .before .before .before .before .before .before .before .before .before .before .is-set2 .ensures)
-    (c .before .before .before .before .before .before .before .before .before .number3 .ensures)
-    (c .before .before .before .before .before .before .before .before .number4 .ensures)
+    (c .before .before .before .before .before .before .before .before .before .number3 .ensures .0)
+    (c .before .before .before .before .before .before .before .before .number4 .ensures .0)
     (ap (λ (x : ℕ). x =? 0b01) (c .before .before .before .before .before .before .before .bits2 .ensures .0))
-    (c .before .before .before .before .before .before .number5 .ensures)
-    (c .before .before .before .before .before .number6 .ensures)
+    (c .before .before .before .before .before .before .number5 .ensures .0)
+    (c .before .before .before .before .before .number6 .ensures .0)
     (c .before .before .before .before .bits3 .ensures .0)
     (ap (λ (x : ℕ). x =? 0b01) (c .before .before .before .bits4 .ensures .0))
     (c .before .before .is-set3 .ensures)
-    (c .before .number7 .ensures)
-    (c .number8 .ensures)
+    (c .before .number7 .ensures .0)
+    (c .number8 .ensures .0)
 
 pub blt-of-spec : {M : Type 1} → statement M
 blt-of-spec =

@@ -1,8 +1,8 @@
 use mathlib.Core.Path.{sym, ap, _∙_}
 use Rattle.model.specs.Formats.{depthOf}
 use borrow.Author.Needs.{needs}
-use Rattle.blt.proofs.depth_of.Statement.{statement}
-use Rattle.blt.proofs.depth_of.Tie as tie
+use Rattle.fields.proofs.depth_of.Statement.{statement}
+use Rattle.fields.proofs.depth_of.Tie as tie
 
 format-requires : tie.Need-format-requires
 format-requires c κs = search needs
