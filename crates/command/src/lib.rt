@@ -12,8 +12,8 @@ use model::Kind;
 pub fn kind_of(header: u32) -> Kind
     ensures { λ r. ⌜ r ≡ kindOf header ⌝ }
 {
-    let code = fields::bits(header, 30, 29);
-    if code == 0b00 {
+    let kind = fields::bits(header, 30, 29);
+    if kind == 0b00 {
         return Kind::Blt;
     }
     Kind::Vector
