@@ -181,9 +181,7 @@ fn dot(f: &mut [u8], op: Operation, reads: bool, foreground: u32, depth: usize, 
     ensures { λ _. ⌜ now (f .exit) ≡ dotted (op .code) (op .pattern) reads foreground depth d s (now (f .entry)) ⌝ }
 {
     let value = source(f, reads, foreground, depth, s);
-    let old = pixel::get(depth, f, d);
-    let new = pixel::combine(op, value, old);
-    pixel::put(depth, f, d, new);
+    pixel::paint(f, op, depth, d, value);
 }
 
 // The mono pattern's bit in a pattern row, i pixels on from the pattern's first column.

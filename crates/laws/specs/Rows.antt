@@ -15,7 +15,7 @@ use Rattle.model.specs.Raster.{raster}
 use Rattle.model.specs.Pattern.{patternBit, patternPlace}
 use Rattle.model.specs.BltPixel.{plus, minus, rectangleOutside, destinationByte, sourceByte, inkBit, patternValue, skipped, sourceValue, drawBlt}
 use Rattle.model.specs.declared.Blt.{Blt}
-use Rattle.laws.specs.Pixels.{length-store, store-raster}
+use Rattle.laws.specs.Pixels.{length-store}
 use Rattle.laws.specs.Order.{bltPixels, order-suc, order-zero}
 use Rattle.laws.specs.Ranges.{Ranged, FitBlt}
 use Rattle.laws.specs.Numbers.{column-add, row-add, number-add, across-most}
@@ -123,7 +123,7 @@ pub record Within (size depth d s : ℕ) : Type 0 where
 unfoldable pub dotted : (code p : ℕ) (reads : Bool) (foreground depth d s : ℕ) → List ℕ → List ℕ
 dotted code p reads foreground depth d s frame =
     storePixel depth frame d
-    (raster 32 code p (if reads then readPixel depth frame s else foreground) (readPixel depth frame d))
+    (raster (8 * depth) code p (if reads then readPixel depth frame s else foreground) (readPixel depth frame d))
 
 source-from : (b : Blt) (k : ℕ) (frame : List ℕ)
     → if b .reads then readPixel (b .depth) frame (fromByte b k) else b .foreground
@@ -131,15 +131,12 @@ source-from : (b : Blt) (k : ℕ) (frame : List ℕ)
 unfolding sourceValue sourceByte
 source-from b k frame = ⊎-elim (λ e. rw e) (λ e. rw e) (true-or-false (b .reads))
 
-module _ (b : Blt) (deep : Depth (b .depth)) (k : ℕ) (frame : List ℕ) where
+module _ (b : Blt) (k : ℕ) (frame : List ℕ) where
   dot-drawn : skipped b k ≡ false
       → dotted (b .code) (patternValue b k) (b .reads) (b .foreground) (b .depth) (toByte b k) (fromByte b k) frame
       ≡ drawBlt b k frame
   unfolding dotted drawBlt destinationByte
-  dot-drawn e =
-      rw (e, source-from b k frame)
-      (store-raster (b .depth) deep frame (destinationByte b k) (b .code) (patternValue b k) (sourceValue b k frame)
-      (readPixel (b .depth) frame (destinationByte b k)))
+  dot-drawn e = rw (e, source-from b k frame)
 
 skipped-none : (b : Blt) (k : ℕ) (frame : List ℕ) → skipped b k ≡ true → drawBlt b k frame ≡ frame
 unfolding drawBlt
@@ -154,11 +151,11 @@ pub solid-value : (b : Blt) (k : ℕ) → b .mono ≡ false → patternValue b k
 unfolding patternValue
 solid-value b k e = rw e
 
-pub solid-dot : (b : Blt) → Depth (b .depth) → b .mono ≡ false → (k : ℕ) {reads : Bool} {code p d s : ℕ} (frame : List ℕ)
+pub solid-dot : (b : Blt) → b .mono ≡ false → (k : ℕ) {reads : Bool} {code p d s : ℕ} (frame : List ℕ)
     → b .reads ≡ reads → code ≡ b .code → p ≡ b .color0 → d ≡ toByte b k → s ≡ fromByte b k
     → dotted code p reads (b .foreground) (b .depth) d s frame ≡ drawBlt b k frame
-solid-dot b deep solid k frame r c p d s =
-    rw (sym r, c, p ∙ sym (solid-value b k solid), d, s) (dot-drawn b deep k frame (solid-drawn b k solid))
+solid-dot b solid k frame r c p d s =
+    rw (sym r, c, p ∙ sym (solid-value b k solid), d, s) (dot-drawn b k frame (solid-drawn b k solid))
 
 -- a pixel of a mono pattern whose bit is `ink`
 unfoldable pub inked : Blt → (ink d s : ℕ) → List ℕ → List ℕ
@@ -195,12 +192,12 @@ mono-value : (b : Blt) (k : ℕ) → b .mono ≡ true → patternValue b k ≡ i
 unfolding patternValue
 mono-value b k e = rw e
 
-pub mono-drawn : (b : Blt) → Depth (b .depth) → b .mono ≡ true → (k : ℕ) {ink d s : ℕ} (frame : List ℕ)
+pub mono-drawn : (b : Blt) → b .mono ≡ true → (k : ℕ) {ink d s : ℕ} (frame : List ℕ)
     → ink ≡ inkBit b k → d ≡ toByte b k → s ≡ fromByte b k → inked b ink d s frame ≡ drawBlt b k frame
 unfolding inked
-mono-drawn b deep mono k frame i d s =
+mono-drawn b mono k frame i d s =
     rw (i, d, s, ← mono-skipped b k mono, ← mono-value b k mono)
-    (⊎-elim (λ e. rw e (sym (skipped-none b k frame e))) (λ e. rw e (dot-drawn b deep k frame e)) (true-or-false (skipped b k)))
+    (⊎-elim (λ e. rw e (sym (skipped-none b k frame e))) (λ e. rw e (dot-drawn b k frame e)) (true-or-false (skipped b k)))
 
 pub ink-lt : (data0 data1 row column : ℕ) → patternBit data0 data1 row column < 2
 unfolding patternBit

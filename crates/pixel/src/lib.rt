@@ -1,6 +1,6 @@
 // One pixel: its bytes in frame memory, the raster operation on it, and the mono pattern's bit for it.
 ghost use mathlib.Core.Path.{_≡_};
-ghost use Prim.Native.Nat.{_+_, _%_, _≤_, _<_};
+ghost use Prim.Native.Nat.{_+_, _*_, _%_, _≤_, _<_};
 ghost use lib.ListN.{length};
 ghost use Rattle.model.specs.Formats.{Depth};
 ghost use Rattle.model.specs.Pixel.{readPixel, storePixel};
@@ -173,6 +173,16 @@ pub fn combine(op: Operation, source: u32, destination: u32) -> u32
     let low = choose(op.neither, op.destination, destination);
     let high = choose(op.source, op.both, destination);
     choose(low, high, source)
+}
+
+// Draws one pixel at a byte of frame memory, at any depth.
+pub fn paint(f: &mut [u8], op: Operation, depth: usize, at: usize, source: u32)
+    requires { ⌜ (Prepared op) × (Depth depth) × (at + depth ≤ length (now f)) ⌝ }
+    ensures { λ _. ⌜ now (f .exit) ≡ storePixel depth (now (f .entry)) at (raster (8 * depth) (op .code) (op .pattern) source (readPixel depth (now (f .entry)) at)) ⌝ }
+{
+    let destination = get(depth, f, at);
+    let value = combine(op, source, destination);
+    put(depth, f, at, value);
 }
 
 // ---- the mono pattern

@@ -1,21 +1,16 @@
 // Vectors: the registers that describe one, the steps from pixel to pixel, the bytes that it reaches, and its drawing.
 use model::Spot;
 use model::Vector;
-use pixel::Operation;
 ghost use mathlib.Core.Path.{_≡_};
 ghost use mathlib.Core.Bool.{_||_};
-ghost use Prim.Native.Nat.{_+_, _*_, _^_, _≤_, _<_};
+ghost use Prim.Native.Nat.{_+_, _^_, _≤_, _<_};
 ghost use lib.ListN.{length};
 ghost use lib.IntN.{pos};
 ghost use lib.Signed.{ltZ};
-ghost use Rattle.model.specs.Formats.{Depth};
-ghost use Rattle.model.specs.Pixel.{readPixel, storePixel};
-ghost use Rattle.model.specs.Raster.{raster};
 ghost use Rattle.model.specs.VectorPixel.{signed16, vectorOf, majorStep, minorStep, moved, step, spot, vectorOutside};
 ghost use Rattle.laws.specs.Order.{vectorPixels};
 ghost use Rattle.laws.specs.Ranges.{RangedVector, FitVector};
 ghost use Rattle.laws.specs.Walks.{Near};
-ghost use Rattle.pixel.specs.Prepared.{Prepared};
 
 // ---- the registers that a vector reads
 
@@ -227,16 +222,6 @@ pub fn outside(framelength: usize, v: Vector) -> bool
 
 // ---- drawing
 
-// Draws one pixel at a byte of frame memory.
-fn paint(f: &mut [u8], op: Operation, depth: usize, at: usize, source: u32)
-    requires { ⌜ (Prepared op) × (Depth depth) × (at + depth ≤ length (now f)) ⌝ }
-    ensures { λ _. ⌜ now (f .exit) ≡ storePixel depth (now (f .entry)) at (raster (8 * depth) (op .code) (op .pattern) source (readPixel depth (now (f .entry)) at)) ⌝ }
-{
-    let destination = pixel::get(depth, f, at);
-    let value = pixel::combine(op, source, destination);
-    pixel::put(depth, f, at, value);
-}
-
 // Draws n pixels of a vector, from pixel k.
 pub fn draw(f: &mut [u8], v: Vector, k: usize, n: usize)
     requires { ⌜ (FitVector (length (now f)) v) × (k + n ≤ v .length) × (length (now f) ≤ 16777216) ⌝ }
@@ -252,7 +237,7 @@ pub fn draw(f: &mut [u8], v: Vector, k: usize, n: usize)
         let plus = s.plus;
         let minus = s.minus;
         let at = offset + plus - minus;
-        paint(f, op, depth, at, source);
+        pixel::paint(f, op, depth, at, source);
         s = next(v, s);
         i += 1;
     }

@@ -82,7 +82,7 @@ loop-again c =
     let m = c .before .before .before .before .before .before .before .before .before .loop .inv in
     remain-next m l
     (c .before .before .before .mono-dot .ensures
-    ∙ mono-drawn _ (r .fit .to .deep) (c .before .before .before .before .before .before .before .before .before .before .before .before .before .before .before .before .pre .1) _ _
+    ∙ mono-drawn _ (c .before .before .before .before .before .before .before .before .before .before .before .before .before .before .before .before .pre .1) _ _
     (c .before .before .before .before .before .before .before .ink-of .ensures .0 ∙ ink-row _ _ _ (omega (arith, r .row)) (c .before .before .before .before .before .before .before .before .before .before .pattern-place .ensures .0))
     (row-place r (to-inside (r .fit)) l (c .before .before .before .before .before .before .before .before .before .before .before .before .to-byte .ensures) (m .goes) (c .before .before .before .before .before .before .walk-on .ensures))
     (row-place r (from-inside (r .fit)) l (c .before .before .before .before .before .before .before .before .before .before .before .from-byte .ensures) (m .goes) (c .before .before .before .before .before .walk-on2 .ensures)))

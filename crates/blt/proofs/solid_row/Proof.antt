@@ -48,7 +48,7 @@ loop-again c =
     let e = row-place r (to-inside (r .fit)) l (c .before .before .before .before .before .before .before .before .to-byte .ensures) (m .goes) (c .before .before .before .before .before .walk-on .ensures) in
     remain-next m l
     (c .before .before .before .dot .ensures
-    ∙ solid-dot _ (r .fit .to .deep) (c .before .before .before .before .before .before .before .before .before .before .before .pre .1) _ _ (c .before .before .before .before .before .before .before .before .before .before .before .pre .2) (c .before .before .before .before .before .before .before .before .before .prepare .ensures .1) (c .before .before .before .before .before .before .before .before .before .prepare .ensures .2) e
+    ∙ solid-dot _ (c .before .before .before .before .before .before .before .before .before .before .before .pre .1) _ _ (c .before .before .before .before .before .before .before .before .before .before .before .pre .2) (c .before .before .before .before .before .before .before .before .before .prepare .ensures .1) (c .before .before .before .before .before .before .before .before .before .prepare .ensures .2) e
     (e ∙ from-to (c .before .before .before .before .before .before .before .before .before .before .before .args .b) (c .before .before .before .before .before .before .before .before .before .before .before .args .k + c .before .before .before .before .before .before .before .loop .i) (c .before .before .before .before .before .before .before .before .before .before .before .pre .2)))
 
 same-length : tie.Need-same-length Inv-loop μ-loop

@@ -59,7 +59,7 @@ loop-again c =
     let m = c .before .before .before .before .before .before .before .before .loop .inv in
     remain-next m l
     (c .before .before .before .dot .ensures
-    ∙ solid-dot _ (r .fit .to .deep) (c .before .before .before .before .before .before .before .before .before .before .before .before .before .pre .1) _ _ (c .before .before .before .before .before .before .before .before .before .before .before .before .before .pre .2) (c .before .before .before .before .before .before .before .before .before .before .before .prepare .ensures .1) (c .before .before .before .before .before .before .before .before .before .before .before .prepare .ensures .2)
+    ∙ solid-dot _ (c .before .before .before .before .before .before .before .before .before .before .before .before .before .pre .1) _ _ (c .before .before .before .before .before .before .before .before .before .before .before .before .before .pre .2) (c .before .before .before .before .before .before .before .before .before .before .before .prepare .ensures .1) (c .before .before .before .before .before .before .before .before .before .before .before .prepare .ensures .2)
     (row-place r (to-inside (r .fit)) l (c .before .before .before .before .before .before .before .before .before .before .to-byte .ensures) (m .goes) (c .before .before .before .before .before .before .walk-on .ensures))
     (row-place r (from-inside (r .fit)) l (c .before .before .before .before .before .before .before .before .before .from-byte .ensures) (m .goes) (c .before .before .before .before .before .walk-on2 .ensures)))
 

@@ -1,8 +1,8 @@
 -- The raster operation over 32 bits serves at each depth.
 use Rattle.laws.specs.Pixels.{store-raster}
 use borrow.Author.Needs.{needs}
-use Rattle.vector.proofs.paint.Statement.{statement}
-use Rattle.vector.proofs.paint.Tie as tie
+use Rattle.pixel.proofs.paint.Statement.{statement}
+use Rattle.pixel.proofs.paint.Tie as tie
 
 get-requires : tie.Need-get-requires
 get-requires c κs = search needs
