@@ -61,11 +61,8 @@ pub fn command_length(kind: Kind) -> u32 {
 
 /// Bits high:low of a word.
 pub fn field(word: u32, high: u32, low: u32) -> u32 {
-    let mut value = 0;
-    for bit in low..=high {
-        value |= ((word >> bit) & 1) << (bit - low);
-    }
-    value
+    let below_high = (1u64 << (high + 1)) - 1;
+    ((u64::from(word) & below_high) >> low) as u32
 }
 
 fn signed16(value: u32) -> i64 {
@@ -569,14 +566,14 @@ fn draw_blt_pixel(registers: &Registers, frame: &mut [u8], k: i64) {
     }
     let pattern = if set { registers[PAT_COLOR_1] } else { registers[PAT_COLOR_0] };
     let destination = read_pixel(frame, pixel.destination, depth);
-    let result = raster_operation(field(raster, 7, 0), pattern, source, destination);
+    let result = raster_operation(field(raster, 7, 0), pattern, source, destination, 8 * depth);
     write_pixel(frame, pixel.destination, depth, result);
 }
 
-/// "result bit = bit (4P + 2S + D) of the 8-bit code"
-pub fn raster_operation(code: u32, pattern: u32, source: u32, destination: u32) -> u32 {
+/// "result bit = bit (4P + 2S + D) of the 8-bit code", for as many bits as a pixel has.
+pub fn raster_operation(code: u32, pattern: u32, source: u32, destination: u32, bits: i64) -> u32 {
     let mut result = 0;
-    for bit in 0..32 {
+    for bit in 0..bits {
         let p = (pattern >> bit) & 1;
         let s = (source >> bit) & 1;
         let d = (destination >> bit) & 1;
@@ -666,7 +663,7 @@ fn draw_vector_pixel(registers: &Registers, frame: &mut [u8], k: i64) {
     if let Some(pixel) = vector_pixels(registers, depth).nth(k as usize) {
         let destination = read_pixel(frame, pixel.position, depth);
         let code = field(registers[RASTER_MODE], 7, 0);
-        let result = raster_operation(code, registers[PAT_COLOR_0], registers[SRC_COLOR_FG], destination);
+        let result = raster_operation(code, registers[PAT_COLOR_0], registers[SRC_COLOR_FG], destination, 8 * depth);
         write_pixel(frame, pixel.position, depth, result);
     }
 }
