@@ -130,7 +130,7 @@ fn raster_mode(rng: &mut Rng, kind: Kind, frame_len: i64) -> u32 {
         _ => rng.pick(&[0, 0, 4, 5, 6, 8, 8]),
     };
     let mono = kind == Kind::Blt && rng.chance(2, 5);
-    let transparent = rng.chance(if mono { 1 } else { 0 } * 2 + 1, 6);
+    let transparent = rng.chance(if mono { 3 } else { 1 }, 6);
     let code = if rng.chance(2, 3) { rng.bits() & 0xFF } else { rng.pick(&CODES) };
     // OS, AS, CS and the reserved bits have no effect while alpha is off
     format << 28 | rng.idle(0x0F3F_C000) | u32::from(transparent) << 10 | u32::from(mono) << 8 | code
@@ -704,9 +704,21 @@ enum Item {
 }
 
 impl Host<'_> {
+    /// A call; the words that it does not look at are stale.
     fn record(&mut self, op: u32, a: u32) {
         let b = self.rng.stale();
         self.records.extend([op, a, b]);
+    }
+
+    fn ask_for_room(&mut self) {
+        let a = self.rng.stale();
+        self.record(3, a);
+    }
+
+    fn restart(&mut self) {
+        let a = self.rng.stale();
+        self.record(4, a);
+        self.state = model::restart(self.state).0;
     }
 
     fn store(&mut self, position: u32, word: u32) {
@@ -852,8 +864,7 @@ impl Host<'_> {
         if self.state.stop != 0 {
             match self.rng.below(10) {
                 0..=4 => {
-                    self.record(4, 0);
-                    self.state = model::restart(self.state).0;
+                    self.restart();
                     self.begin_again();
                 }
                 5 => self.run_some(),
@@ -864,7 +875,7 @@ impl Host<'_> {
                     self.publish_some();
                 }
                 8 => self.publish_wild(),
-                _ => self.record(3, 0),
+                _ => self.ask_for_room(),
             }
             return;
         }
@@ -887,13 +898,9 @@ impl Host<'_> {
             }
             18..=32 => self.run_some(),
             33 | 34 => self.publish_some(),
-            35 => self.record(3, 0),
+            35 => self.ask_for_room(),
             36 => self.publish_wild(),
-            37 => {
-                // refused by 7
-                self.record(4, 0);
-                self.state = model::restart(self.state).0;
-            }
+            37 => self.restart(), // refused by 7
             _ => {
                 if self.state.place.is_some() {
                     self.reuse();

@@ -343,6 +343,23 @@ impl Counts {
     }
 }
 
+/// The write pointer stands inside a command: its header waits, its last word does not.
+fn ends_inside(state: &State, ring: &[u32]) -> bool {
+    let mut at = state.read as usize;
+    let mut left = model::waiting(state);
+    while left > 0 {
+        match model::kind_of(ring[at]) {
+            Some(kind) if left < model::command_length(kind) => return true,
+            Some(kind) if !model::has_w(ring[at]) => {
+                at = (at + model::command_length(kind) as usize) % ring.len();
+                left -= model::command_length(kind);
+            }
+            _ => return false,
+        }
+    }
+    false
+}
+
 impl Watch for Counts {
     fn unit(&mut self, before: &State, ring: &[u32], after: &State) {
         self.units += 1;
@@ -387,7 +404,7 @@ impl Watch for Counts {
                 self.hit_if(stopped && portion > 0, "publish while stopped");
                 self.hit_if(position < before.write, "publish past the ring's end");
                 self.hit_if(answer.room == 0, "ring full");
-                self.hit_if(portion > 0 && portion % 17 != 0 && portion % 14 != 0, "publish inside a command");
+                self.hit_if(portion > 0 && ends_inside(after, ring), "publish inside a command");
             }
             Call::Run(budget) => self.run_answer(budget, before, ring, answer, after),
         }
