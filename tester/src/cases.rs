@@ -112,7 +112,8 @@ fn settle(rng: &mut Rng, kind: Kind, registers: &mut Registers, frame_len: i64, 
     };
     if source && rng.chance(1, 2) {
         // near the destination, so that the copy overlaps
-        let reach = model::bytes_per_pixel(registers).unwrap_or(1) * 3 + 2;
+        let depth = model::bytes_per_pixel(registers).unwrap_or(1);
+        let reach = if rng.chance(1, 3) { depth } else { depth * 3 + 2 };
         offset = (model::destination_offset(registers) + rng.between(-reach, reach)).clamp(first, last);
     }
     set_offset(registers, register, offset);
@@ -154,6 +155,9 @@ fn wish_blt(rng: &mut Rng, registers: &Registers, frame_len: i64, most: i64) -> 
     r[RASTER_MODE] = raster_mode(rng, Kind::Blt, frame_len);
     let depth = model::bytes_per_pixel(&r).unwrap_or(1);
     let selected = rng.chance(2, 5);
+    if selected && rng.chance(1, 3) {
+        r[RASTER_MODE] = r[RASTER_MODE] & !0xFF | 0xCC; // a plain copy
+    }
     // throttle, checkpoint, destination required and the reserved bits have no effect
     r[BLT_MODE] = rng.idle(0xFFFF_FC3C) | (rng.bits() & 0x300) | u32::from(selected);
     let mut width = match rng.below(6) {
