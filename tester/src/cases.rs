@@ -1,0 +1,997 @@
+//! Random cases: recordings and traces, directed so that accepted drawing is common and every refusal comes up.
+
+use crate::model::{self, Kind, Registers, State, Word};
+use crate::model::{
+    BASE_OFFSET, BLT_MODE, CH3_MODE_STR, CH3_OFFSET, CH3_WIDHI, DST_OFFSET, PAT_COLOR_0, PAT_COLOR_1, PAT_DATA_0, PAT_DATA_1,
+    RASTER_MODE, SRC_COLOR_BG, SRC_COLOR_FG, SRC_OFFSET, STRIDE, VECTOR_MODE, VEC_ERR, VEC_LEN, WID_HEIGHT,
+};
+use std::collections::VecDeque;
+
+// ---- Random numbers -------------------------------------------------------------------------------------------------------------
+
+/// xorshift64*
+pub struct Rng(u64);
+
+impl Rng {
+    /// The generator of one case: the seed and the case's number, mixed so that neighbours differ.
+    pub fn of_case(seed: u64, case: u64) -> Rng {
+        let mut z = seed.wrapping_add((case + 1).wrapping_mul(0x9E37_79B9_7F4A_7C15));
+        z = (z ^ (z >> 30)).wrapping_mul(0xBF58_476D_1CE4_E5B9);
+        z = (z ^ (z >> 27)).wrapping_mul(0x94D0_49BB_1331_11EB);
+        Rng((z ^ (z >> 31)) | 1)
+    }
+
+    fn next(&mut self) -> u64 {
+        self.0 ^= self.0 >> 12;
+        self.0 ^= self.0 << 25;
+        self.0 ^= self.0 >> 27;
+        self.0.wrapping_mul(0x2545_F491_4F6C_DD1D)
+    }
+
+    fn below(&mut self, n: u64) -> u64 {
+        (self.next() >> 16) % n
+    }
+
+    /// low to high, both included
+    fn between(&mut self, low: i64, high: i64) -> i64 {
+        low + self.below((high - low + 1) as u64) as i64
+    }
+
+    fn chance(&mut self, part: u64, whole: u64) -> bool {
+        self.below(whole) < part
+    }
+
+    fn pick<T: Copy>(&mut self, list: &[T]) -> T {
+        list[self.below(list.len() as u64) as usize]
+    }
+
+    fn bits(&mut self) -> u32 {
+        (self.next() >> 32) as u32
+    }
+
+    /// A word that nobody cleaned: often random, sometimes zeros or ones.
+    fn stale(&mut self) -> u32 {
+        match self.below(6) {
+            0 => 0,
+            1 => u32::MAX,
+            _ => self.bits(),
+        }
+    }
+
+    /// Bits that have no effect: mostly zero, else random under the mask.
+    fn idle(&mut self, mask: u32) -> u32 {
+        if self.chance(2, 5) {
+            self.bits() & mask
+        } else {
+            0
+        }
+    }
+}
+
+// ---- What a command covers ------------------------------------------------------------------------------------------------------
+
+/// The lowest and highest byte of a command's destination (or source) pixels.
+pub fn span(kind: Kind, registers: &Registers, source: bool) -> (i64, i64) {
+    let depth = model::bytes_per_pixel(registers).unwrap_or(1);
+    let mut low = i64::MAX;
+    let mut high = i64::MIN;
+    let mut take = |first: i64| {
+        low = low.min(first);
+        high = high.max(first + depth - 1);
+    };
+    match kind {
+        Kind::Blt => {
+            let (w, h) = (model::width(registers), model::height(registers));
+            for k in [0, w - 1, w * (h - 1), w * h - 1] {
+                let pixel = model::blt_pixel(registers, depth, k);
+                take(if source { pixel.source } else { pixel.destination });
+            }
+        }
+        Kind::Vector => model::vector_pixels(registers, depth).for_each(|pixel| take(pixel.position)),
+    }
+    (low, high)
+}
+
+fn set_offset(registers: &mut Registers, register: usize, offset: i64) {
+    registers[register] = (registers[register] & 0xFF00_0000) | (offset as u32 & 0x00FF_FFFF);
+}
+
+/// Moves the destination (or source) to lie in the frame: at its first byte, at its last byte, or anywhere. False if it is too long.
+fn settle(rng: &mut Rng, kind: Kind, registers: &mut Registers, frame_len: i64, source: bool) -> bool {
+    let register = if source { SRC_OFFSET } else { DST_OFFSET };
+    set_offset(registers, register, 0);
+    let (low, high) = span(kind, registers, source);
+    if high - low >= frame_len {
+        return false;
+    }
+    let (first, last) = (-low, frame_len - 1 - high);
+    let mut offset = match rng.below(5) {
+        0 => first,
+        1 => last,
+        _ => rng.between(first, last),
+    };
+    if source && rng.chance(1, 2) {
+        // near the destination, so that the copy overlaps
+        let depth = model::bytes_per_pixel(registers).unwrap_or(1);
+        let reach = if rng.chance(1, 3) { depth } else { depth * 3 + 2 };
+        offset = (model::destination_offset(registers) + rng.between(-reach, reach)).clamp(first, last);
+    }
+    set_offset(registers, register, offset);
+    true
+}
+
+// ---- Commands -------------------------------------------------------------------------------------------------------------------
+
+const CODES: [u32; 14] = [0x00, 0xFF, 0xF0, 0xCC, 0xAA, 0x5A, 0x66, 0x88, 0xEE, 0x0F, 0x33, 0x55, 0xE2, 0xB8];
+
+fn raster_mode(rng: &mut Rng, kind: Kind, frame_len: i64) -> u32 {
+    let format = match frame_len {
+        1 => 0,
+        2 | 3 => rng.pick(&[0, 4, 5, 6]),
+        _ => rng.pick(&[0, 0, 4, 5, 6, 8, 8]),
+    };
+    let mono = kind == Kind::Blt && rng.chance(2, 5);
+    let transparent = rng.chance(if mono { 3 } else { 1 }, 6);
+    let code = if rng.chance(2, 3) { rng.bits() & 0xFF } else { rng.pick(&CODES) };
+    // OS, AS, CS and the reserved bits have no effect while alpha is off
+    format << 28 | rng.idle(0x0F3F_C000) | u32::from(transparent) << 10 | u32::from(mono) << 8 | code
+}
+
+fn stride(rng: &mut Rng, row: i64) -> u32 {
+    let stride = match rng.below(7) {
+        0 => 0,
+        1 => rng.between(0, row),
+        2 | 3 => row,
+        4 => row + rng.between(0, 9),
+        5 => rng.between(0, 96),
+        _ => rng.pick(&[16, 32, 64, 100, 128, 256, 65_535]),
+    };
+    stride.min(65_535) as u32
+}
+
+/// New values for a BLT that is to be drawn. `most` is about how many pixels it may have.
+fn wish_blt(rng: &mut Rng, registers: &Registers, frame_len: i64, most: i64) -> Registers {
+    let mut r = *registers;
+    r[RASTER_MODE] = raster_mode(rng, Kind::Blt, frame_len);
+    let depth = model::bytes_per_pixel(&r).unwrap_or(1);
+    let selected = rng.chance(2, 5);
+    if selected && rng.chance(1, 3) {
+        r[RASTER_MODE] = r[RASTER_MODE] & !0xFF | 0xCC; // a plain copy
+    }
+    // throttle, checkpoint, destination required and the reserved bits have no effect
+    r[BLT_MODE] = rng.idle(0xFFFF_FC3C) | (rng.bits() & 0x300) | u32::from(selected);
+    let mut width = match rng.below(6) {
+        0 => 1,
+        1 => rng.between(1, most),
+        2 => rng.between(1, 40),
+        _ => rng.between(1, 12),
+    };
+    width = width.clamp(1, (frame_len / depth).min(most)).min(4_095);
+    let mut height = match rng.below(6) {
+        0 => 1,
+        1 => rng.between(1, most),
+        _ => rng.between(1, 12),
+    };
+    height = height.clamp(1, (most / width).max(1)).min(4_095);
+    let row = width * depth;
+    let to = stride(rng, row);
+    let mut from = if rng.chance(1, 2) { to } else { stride(rng, row) };
+    if to != 0 {
+        height = height.min(1 + (frame_len - row) / i64::from(to));
+    }
+    if selected && from != 0 && (height - 1) * i64::from(from) + row > frame_len {
+        from = if rng.chance(1, 2) { to } else { 0 };
+    }
+    r[STRIDE] = from << 16 | to;
+    r[WID_HEIGHT] = rng.idle(0xF000_F000) | (width as u32) << 16 | height as u32;
+    r[DST_OFFSET] = rng.bits() & 0xFC00_0000 | rng.idle(0x0300_0000);
+    r[SRC_OFFSET] = rng.idle(0xFF00_0000) | (rng.bits() & 0x00FF_FFFF);
+    if rng.chance(3, 4) {
+        r[SRC_COLOR_FG] = rng.stale();
+    }
+    if rng.chance(3, 4) {
+        r[PAT_COLOR_0] = rng.stale();
+        r[PAT_COLOR_1] = rng.stale();
+    }
+    if rng.chance(3, 4) {
+        r[PAT_DATA_0] = rng.stale();
+        r[PAT_DATA_1] = rng.bits();
+    }
+    idle_registers(rng, &mut r);
+    r
+}
+
+/// Registers that no drawing reads, or of which one bit is judged.
+fn idle_registers(rng: &mut Rng, r: &mut Registers) {
+    for register in [SRC_COLOR_BG, CH3_OFFSET, CH3_WIDHI] {
+        if rng.chance(1, 3) {
+            r[register] = rng.stale();
+        }
+    }
+    if rng.chance(1, 3) || r[CH3_MODE_STR] >> 31 == 1 {
+        r[CH3_MODE_STR] = rng.stale() & 0x7FFF_FFFF;
+    }
+    r[BASE_OFFSET] = 0;
+}
+
+/// New values for a vector that is to be drawn.
+fn wish_vector(rng: &mut Rng, registers: &Registers, frame_len: i64, most: i64) -> Registers {
+    let mut r = *registers;
+    r[RASTER_MODE] = raster_mode(rng, Kind::Vector, frame_len);
+    let depth = model::bytes_per_pixel(&r).unwrap_or(1);
+    r[VECTOR_MODE] = rng.idle(0xFFFF_FFF8) | (rng.bits() & 7);
+    let mut length = match rng.below(5) {
+        0 => 1,
+        1 => rng.between(1, most),
+        _ => rng.between(1, 30),
+    }
+    .min(4_095);
+    let (axial, diagonal, initial) = if rng.chance(1, 2) {
+        // a driver's line: 2 dy, 2 (dy - dx), 2 dy - dx, one less at times
+        let major = rng.between(1, 60);
+        let minor = rng.between(0, major);
+        (2 * minor, 2 * (minor - major), 2 * minor - major - rng.between(0, 1))
+    } else {
+        let axial = match rng.below(4) {
+            0 => 0,
+            1 => 32_767,
+            2 => rng.between(0, 32_767),
+            _ => rng.between(0, 20),
+        };
+        let diagonal = match rng.below(4) {
+            0 => 0,
+            1 => -32_768,
+            2 => rng.between(-32_768, 0),
+            _ => rng.between(-20, 0),
+        };
+        let initial = match rng.below(6) {
+            0 => 0,
+            1 => -1,
+            2 => 32_767,
+            3 => -32_768,
+            4 => rng.between(-32_768, 32_767),
+            _ => rng.between(-20, 20),
+        };
+        (axial, diagonal, initial)
+    };
+    r[VEC_ERR] = (axial as u32 & 0xFFFF) << 16 | diagonal as u32 & 0xFFFF;
+    let reach = rng.between(1, 20);
+    r[STRIDE] = (rng.stale() & 0xFFFF) << 16 | stride(rng, reach * depth);
+    r[DST_OFFSET] = rng.bits() & 0xFC00_0000 | rng.idle(0x0300_0000);
+    let top = rng.idle(0xF000_0000);
+    loop {
+        r[VEC_LEN] = top | (length as u32) << 16 | initial as u32 & 0xFFFF;
+        let (low, high) = span(Kind::Vector, &r, false);
+        if length == 1 || high - low < frame_len {
+            break;
+        }
+        length = (length * 2 / 3).max(1);
+    }
+    if rng.chance(3, 4) {
+        r[SRC_COLOR_FG] = rng.stale();
+        r[PAT_COLOR_0] = rng.stale();
+    }
+    for register in [PAT_COLOR_1, PAT_DATA_0, PAT_DATA_1] {
+        if rng.chance(1, 3) {
+            r[register] = rng.stale();
+        }
+    }
+    if rng.chance(1, 3) || r[CH3_MODE_STR] >> 31 == 1 {
+        r[CH3_MODE_STR] = rng.stale() & 0x7FFF_FFFF;
+    }
+    r[BASE_OFFSET] = 0;
+    r
+}
+
+/// Registers for a command that judging accepts.
+fn wish(rng: &mut Rng, kind: Kind, registers: &Registers, frame_len: u32, most: i64) -> Registers {
+    let len = i64::from(frame_len);
+    for attempt in 0.. {
+        let mut r = match kind {
+            Kind::Blt => wish_blt(rng, registers, len, most),
+            Kind::Vector => wish_vector(rng, registers, len, most),
+        };
+        if attempt < 4 && rng.chance(1, 3) {
+            // what earlier commands left, as far as it can be drawn
+            let kept = rng.bits() & rng.bits();
+            for i in [RASTER_MODE, SRC_OFFSET, STRIDE, WID_HEIGHT] {
+                if kept >> i & 1 == 1 {
+                    r[i] = registers[i];
+                }
+            }
+            if model::bytes_per_pixel(&r).is_none() || !(1..=2 * most).contains(&model::pixel_count(kind, &r)) {
+                continue;
+            }
+        }
+        let keep_source = r[SRC_OFFSET] == registers[SRC_OFFSET];
+        let settled = settle(rng, kind, &mut r, len, false)
+            && (kind == Kind::Vector || !model::source_selected(&r) || keep_source || settle(rng, kind, &mut r, len, true));
+        if settled && model::judge(kind, &r, frame_len) == 0 {
+            return r;
+        }
+    }
+    *registers
+}
+
+/// Changes one field so that judging refuses by this number (or by a lower one, where that cannot be had).
+fn damage(rng: &mut Rng, kind: Kind, r: &mut Registers, frame_len: u32, number: u32) {
+    match number {
+        23 => {
+            if rng.chance(2, 3) {
+                let code = rng.pick(&[1, 2, 3, 7, 9, 10, 11, 12, 13, 14, 15]);
+                r[RASTER_MODE] = r[RASTER_MODE] & 0x0FFF_FFFF | code << 28;
+            } else {
+                r[RASTER_MODE] |= rng.pick(&[1, 2, 3]) << 22;
+            }
+        }
+        24 => match rng.below(if kind == Kind::Blt { 8 } else { 6 }) {
+            0 => r[RASTER_MODE] |= 1 << 11,
+            1 => r[RASTER_MODE] |= 1 << 12,
+            2 => r[RASTER_MODE] |= 1 << 13,
+            3 => r[CH3_MODE_STR] |= 1 << 31,
+            4 => r[BASE_OFFSET] = if rng.chance(1, 4) { rng.bits() | 1 } else { 1 << rng.below(32) },
+            5 => {
+                let mode = if kind == Kind::Blt { rng.pick(&[2, 3]) } else { rng.pick(&[1, 2, 3]) };
+                r[RASTER_MODE] = r[RASTER_MODE] & !0x300 | mode << 8;
+            }
+            6 => r[BLT_MODE] |= rng.pick(&[1, 2, 3]) << 6,
+            _ => r[BLT_MODE] = r[BLT_MODE] & !3 | rng.pick(&[2, 3]),
+        },
+        25 => {
+            if kind == Kind::Vector || rng.chance(1, 2) {
+                r[WID_HEIGHT] &= !0x0FFF_0000;
+            } else {
+                r[WID_HEIGHT] &= !0x0000_0FFF;
+            }
+        }
+        26 => {
+            let axial = if rng.chance(1, 2) { rng.pick(&[0xFFFF, 0x8000, 0xFF00]) } else { 0 };
+            let diagonal = if axial == 0 { rng.pick(&[1, 0x7FFF, 0x0100]) } else { 0 };
+            r[VEC_ERR] = axial << 16 | diagonal;
+        }
+        _ => {
+            let source = number == 28;
+            if source {
+                r[BLT_MODE] |= 1;
+            }
+            let register = if source { SRC_OFFSET } else { DST_OFFSET };
+            set_offset(r, register, 0);
+            let (low, high) = span(kind, r, source);
+            let offset = match rng.below(8) {
+                0 => 0x00FF_FFFF,
+                1 => i64::from(frame_len) + rng.between(0, 40),
+                2..=4 if low < 0 => -low - 1, // one byte before the frame
+                _ => i64::from(frame_len) - high, // one byte behind it
+            };
+            set_offset(r, register, offset);
+        }
+    }
+}
+
+/// A command's words: the wished values where the registers differ, and elsewhere as it comes, stale words where enables are clear.
+fn emit(rng: &mut Rng, kind: Kind, registers: &Registers, wished: &Registers, draw: bool) -> Vec<u32> {
+    let list = model::words_of(kind);
+    let last = list.len() - 1;
+    let mut header: u32 = if kind == Kind::Vector { 1 << 29 } else { 0 };
+    if rng.chance(1, 4) {
+        header |= 1 << 28;
+    }
+    let all = rng.chance(1, 4);
+    let mut words = vec![0];
+    for (i, register) in list.iter().enumerate() {
+        let enabled = if i == last { draw } else { all || wished[*register] != registers[*register] || rng.chance(1, 3) };
+        if enabled {
+            header |= 1 << i;
+            words.push(wished[*register]);
+        } else {
+            words.push(rng.stale());
+        }
+    }
+    words[0] = header;
+    words
+}
+
+fn load(registers: &mut Registers, kind: Kind, words: &[u32]) {
+    for (i, register) in model::words_of(kind).iter().enumerate() {
+        if words[0] >> i & 1 == 1 {
+            registers[*register] = words[i + 1];
+        }
+    }
+}
+
+fn some_kind(rng: &mut Rng) -> Kind {
+    if rng.chance(3, 5) {
+        Kind::Blt
+    } else {
+        Kind::Vector
+    }
+}
+
+/// One or two good commands; the registers follow.
+fn good(rng: &mut Rng, registers: &mut Registers, frame_len: u32, most: i64) -> Vec<(Kind, Vec<u32>)> {
+    let kind = some_kind(rng);
+    let mut list = Vec::new();
+    if rng.chance(1, 12) {
+        // a load of anything, bad values too: judged only by a command that draws
+        let words_kind = some_kind(rng);
+        let mut junk = *registers;
+        for register in model::words_of(words_kind) {
+            if rng.chance(1, 3) {
+                junk[*register] = rng.stale();
+            }
+        }
+        let words = emit(rng, words_kind, registers, &junk, false);
+        load(registers, words_kind, &words);
+        list.push((words_kind, words));
+    }
+    let wished = wish(rng, kind, registers, frame_len, most);
+    if rng.chance(1, 6) {
+        // part of it by a load, the rest by the draw
+        let words_kind = some_kind(rng);
+        let mut part = *registers;
+        for register in model::words_of(words_kind) {
+            if rng.chance(1, 2) {
+                part[*register] = wished[*register];
+            }
+        }
+        let words = emit(rng, words_kind, registers, &part, false);
+        load(registers, words_kind, &words);
+        list.push((words_kind, words));
+    }
+    let words = emit(rng, kind, registers, &wished, true);
+    load(registers, kind, &words);
+    list.push((kind, words));
+    list
+}
+
+/// A command that is to be refused by this number, 21 or 23 to 28 (22 hangs on its place in the ring).
+fn bad(rng: &mut Rng, registers: &Registers, frame_len: u32, number: u32) -> (Kind, Vec<u32>) {
+    let kind = match number {
+        26 => Kind::Vector,
+        28 => Kind::Blt,
+        _ => some_kind(rng),
+    };
+    let mut wished = wish(rng, kind, registers, frame_len, 60);
+    if number >= 23 {
+        damage(rng, kind, &mut wished, frame_len, number);
+        if rng.chance(1, 5) {
+            // a second fault: the lowest wins
+            let second = rng.between(i64::from(number), 28) as u32;
+            let fits = match second {
+                25 => false, // leaves no pixels to place
+                26 => kind == Kind::Vector,
+                27 => model::pixel_count(kind, &wished) > 0,
+                28 => kind == Kind::Blt && model::pixel_count(kind, &wished) > 0,
+                _ => true,
+            };
+            if fits {
+                damage(rng, kind, &mut wished, frame_len, second);
+            }
+        }
+    }
+    let draw = number == 21 && rng.chance(1, 2) || number != 21;
+    let mut words = emit(rng, kind, registers, &wished, draw);
+    if number == 21 {
+        let lowest = if kind == Kind::Blt { 16 } else { 13 };
+        match rng.below(4) {
+            0 => words[0] |= 1 << 30,
+            1 => words[0] |= 1 << lowest,
+            2 => words[0] |= 1 << 27,
+            _ => words[0] |= 1 << rng.between(lowest, 27),
+        }
+    }
+    (kind, words)
+}
+
+fn some_refusal(rng: &mut Rng) -> u32 {
+    rng.pick(&[21, 23, 24, 24, 24, 25, 26, 27, 27, 27, 28, 28, 28])
+}
+
+fn some_frame_length(rng: &mut Rng) -> u32 {
+    match rng.below(8) {
+        0 => rng.between(1, 8) as u32,
+        1 => 32_768,
+        2 => rng.between(1, 32_768) as u32,
+        3 => rng.between(9, 64) as u32,
+        _ => rng.between(64, 2_000) as u32,
+    }
+}
+
+/// A fill with a random mono pattern over the whole frame, so that there is something to copy.
+fn ground(rng: &mut Rng, registers: &mut Registers, frame_len: u32) -> Vec<u32> {
+    let mut r = *registers;
+    r[RASTER_MODE] = 0x0000_01F0;
+    let width = (frame_len as f64).sqrt() as u32;
+    r[DST_OFFSET] = rng.bits() & 0xFC00_0000;
+    r[STRIDE] = width;
+    r[WID_HEIGHT] = width << 16 | frame_len / width;
+    r[PAT_COLOR_0] = rng.bits();
+    r[PAT_COLOR_1] = rng.bits();
+    r[PAT_DATA_0] = rng.bits();
+    r[PAT_DATA_1] = rng.bits();
+    r[BLT_MODE] = 0;
+    let words = emit(rng, Kind::Blt, registers, &r, true);
+    load(registers, Kind::Blt, &words);
+    words
+}
+
+// ---- Recordings -----------------------------------------------------------------------------------------------------------------
+
+fn bytes_of(words: &[u32]) -> Vec<u8> {
+    words.iter().flat_map(|word| word.to_le_bytes()).collect()
+}
+
+/// A whole recording.
+pub fn recording(rng: &mut Rng) -> Vec<u8> {
+    let ring_len = match rng.below(6) {
+        0 => 64,
+        1 => rng.between(64, 100) as u32,
+        2 => 4_096,
+        3 => rng.between(64, 4_096) as u32,
+        _ => rng.between(200, 1_200) as u32,
+    };
+    let frame_len = some_frame_length(rng);
+    let mut registers = model::ZEROS.registers;
+    let mut ring: Vec<u32> = Vec::new();
+    if rng.chance(3, 4) && frame_len <= 4_000 {
+        ring.extend(ground(rng, &mut registers, frame_len));
+    }
+    let most = rng.pick(&[8, 30, 100, 100, 300, 300, 2_000]);
+    let full = ring_len as usize - 1;
+    let ending = rng.below(10);
+    if ending == 0 {
+        // W in a recording: refused at ring word 0, waiting anywhere else
+        if rng.chance(1, 2) {
+            ring.clear();
+        }
+        let at = registers;
+        let (_, mut words) = good(rng, &mut registers, frame_len, most).remove(0);
+        registers = at;
+        words[0] |= 1 << 31;
+        ring.extend(words);
+    }
+    if ending == 1 && rng.chance(1, 4) {
+        // a great many pixels on few bytes, cut by the budget
+        let mut r = wish(rng, Kind::Blt, &registers, frame_len, 100);
+        let depth = model::bytes_per_pixel(&r).unwrap_or(1);
+        let most_wide = (i64::from(frame_len) / depth).min(4_095);
+        let (any_wide, any_high) = (rng.between(1, most_wide), rng.between(1, 4_095));
+        let wide = rng.pick(&[1, most_wide, any_wide]) as u32;
+        r[STRIDE] = 0;
+        r[WID_HEIGHT] = wide << 16 | rng.pick(&[4_095, any_high]) as u32;
+        r[BLT_MODE] &= !3;
+        if settle(rng, Kind::Blt, &mut r, i64::from(frame_len), false) {
+            ring.extend(emit(rng, Kind::Blt, &registers, &r, true));
+            registers = r;
+        }
+    }
+    // the position behind each command
+    let mut ends = vec![ring.len()];
+    while ring.len() + 17 <= full {
+        if ending > 4 && (ring.len() + 34 > full || rng.chance(1, 60)) {
+            let number = some_refusal(rng);
+            ring.extend(bad(rng, &registers, frame_len, number).1);
+            ends.push(ring.len());
+            break;
+        }
+        for (_, words) in good(rng, &mut registers, frame_len, most) {
+            if ring.len() + words.len() <= full {
+                ring.extend(words);
+                ends.push(ring.len());
+            }
+        }
+        if rng.chance(1, 100) {
+            break;
+        }
+    }
+    let mut position = *ends.last().unwrap_or(&0) as u32;
+    while (ring.len() as u32) < ring_len {
+        ring.push(rng.stale());
+    }
+    match rng.below(30) {
+        0 => position = rng.below(u64::from(ring_len)) as u32, // inside a command, or behind all of them
+        1 => position = rng.pick(&[ring_len, ring_len, ring_len + 1, u32::MAX]),
+        2 => position = rng.pick(&ends) as u32,
+        _ => {}
+    }
+    // how many units there are, up to a limit
+    let limit = 120_000;
+    let (state, _) = model::setup(ring_len, frame_len);
+    let (state, _) = model::publish(state, position);
+    let mut frame = vec![0; frame_len as usize];
+    let (_, answer) = model::run(state, &ring, &mut frame, limit, &mut |_, _, _| {});
+    let budget = some_budget(rng, answer.units, if answer.word == Word::Spent { limit } else { u32::MAX }, true);
+
+    let mut words = vec![ring_len, frame_len, position, budget];
+    words.extend(ring);
+    bytes_of(&words)
+}
+
+/// 0, 1, exact, one off, small or huge.
+fn some_budget(rng: &mut Rng, exact: u32, limit: u32, mostly_whole: bool) -> u32 {
+    let any = match rng.below(if mostly_whole { 24 } else { 12 }) {
+        0 => 0,
+        1 => 1,
+        2 | 3 => exact,
+        4 => exact.saturating_sub(1),
+        5 => exact + 1,
+        6 => rng.below(u64::from(exact) + 1) as u32,
+        7 | 8 => rng.below(12) as u32,
+        9 => rng.bits(),
+        _ => u32::MAX,
+    };
+    any.min(limit)
+}
+
+/// A recording that is bad or whose setup is refused, with the name of its fault.
+pub fn damaged_recording(rng: &mut Rng) -> (&'static str, Vec<u8>) {
+    let mut bytes = recording(rng);
+    let set = |bytes: &mut Vec<u8>, index: usize, word: u32| bytes[4 * index..4 * index + 4].copy_from_slice(&word.to_le_bytes());
+    match rng.below(11) {
+        0 => {
+            bytes.pop();
+            ("recording one byte short", bytes)
+        }
+        1 => {
+            bytes.push(rng.bits() as u8);
+            ("recording one byte long", bytes)
+        }
+        2 => {
+            let more = rng.chance(1, 2);
+            let length = if more { bytes.len() + 4 } else { bytes.len() - 4 };
+            bytes.resize(length, 0);
+            ("recording one word off", bytes)
+        }
+        3 => ("recording empty", Vec::new()),
+        4 => {
+            bytes.truncate(rng.below(16) as usize);
+            ("recording below 16 bytes", bytes)
+        }
+        5 => {
+            let ring_len = rng.pick(&[4_097, 4_098, 5_000]);
+            set(&mut bytes, 0, ring_len);
+            bytes.resize(4 * (4 + ring_len as usize), 0);
+            ("recording with ring over the limit", bytes)
+        }
+        6 => {
+            set(&mut bytes, 0, rng.pick(&[0x4000_0040, u32::MAX, 16_385]));
+            ("recording with ring over the limit", bytes)
+        }
+        7 => {
+            set(&mut bytes, 1, rng.pick(&[32_769, 65_536, u32::MAX]));
+            ("recording with frame over the limit", bytes)
+        }
+        8 => {
+            let any = rng.between(0, 63) as u32;
+            let ring_len = rng.pick(&[0, 1, 17, 63, 63, any]);
+            set(&mut bytes, 0, ring_len);
+            if rng.chance(1, 3) {
+                set(&mut bytes, 1, 0);
+            }
+            bytes.resize(4 * (4 + ring_len as usize), 0);
+            ("recording with ring refused", bytes)
+        }
+        9 => {
+            set(&mut bytes, 1, 0);
+            ("recording with frame refused", bytes)
+        }
+        _ => {
+            set(&mut bytes, 2, rng.bits() | 0x1000);
+            ("recording with position refused", bytes)
+        }
+    }
+}
+
+// ---- Traces ---------------------------------------------------------------------------------------------------------------------
+
+/// A host that feeds a ring, with a model beside it so that it knows what it is about.
+struct Host<'a> {
+    rng: &'a mut Rng,
+    records: Vec<u32>,
+    state: State,
+    ring: Vec<u32>,
+    frame: Vec<u8>,
+    /// what is still to be stored
+    queue: VecDeque<Item>,
+    /// where the next word goes; stored words up to here may not be published yet
+    tip: u32,
+    /// the registers once all that was queued is loaded
+    ahead: Registers,
+    most: i64,
+}
+
+#[derive(Clone, Copy)]
+enum Item {
+    Word(u32),
+    /// behind a command with W
+    ToZero,
+}
+
+impl Host<'_> {
+    /// A call; the words that it does not look at are stale.
+    fn record(&mut self, op: u32, a: u32) {
+        let b = self.rng.stale();
+        self.records.extend([op, a, b]);
+    }
+
+    fn ask_for_room(&mut self) {
+        let a = self.rng.stale();
+        self.record(3, a);
+    }
+
+    fn restart(&mut self) {
+        let a = self.rng.stale();
+        self.record(4, a);
+        self.state = model::restart(self.state).0;
+    }
+
+    fn store(&mut self, position: u32, word: u32) {
+        self.records.extend([0, position, word]);
+        self.ring[position as usize] = word;
+    }
+
+    fn publish(&mut self, position: u32) {
+        self.record(1, position);
+        self.state = model::publish(self.state, position).0;
+    }
+
+    fn run(&mut self, budget: u32) {
+        self.record(2, budget);
+        self.state = model::run(self.state, &self.ring, &mut self.frame, budget, &mut |_, _, _| {}).0;
+    }
+
+    fn run_some(&mut self) {
+        let mut frame = self.frame.clone();
+        let (_, answer) = model::run(self.state, &self.ring, &mut frame, u32::MAX, &mut |_, _, _| {});
+        let budget = some_budget(self.rng, answer.units, u32::MAX, false);
+        self.run(budget);
+    }
+
+    fn distance(&self, from: u32, to: u32) -> u32 {
+        (to + self.state.ring_len - from) % self.state.ring_len
+    }
+
+    /// After a restart, or when a wild publish went past what was stored.
+    fn begin_again(&mut self) {
+        self.queue.clear();
+        self.tip = self.state.write;
+        self.ahead = self.state.registers;
+    }
+
+    /// Queues the next command or two.
+    fn think(&mut self) {
+        let frame_len = self.state.frame_len;
+        let list = if self.rng.chance(1, 9) {
+            let number = some_refusal(self.rng);
+            vec![bad(self.rng, &self.ahead, frame_len, number)]
+        } else {
+            good(self.rng, &mut self.ahead, frame_len, self.most)
+        };
+        let mut at = self.tip;
+        for (kind, mut words) in list {
+            let length = model::command_length(kind);
+            let room_behind = self.state.ring_len - at;
+            let w_is_good = at != 0 && length <= room_behind;
+            let w = if !w_is_good {
+                self.rng.chance(1, 14) // refused by 22
+            } else if room_behind < 2 * length {
+                self.rng.chance(1, 2)
+            } else {
+                self.rng.chance(1, 10)
+            };
+            if w {
+                words[0] |= 1 << 31;
+            }
+            self.queue.extend(words.into_iter().map(Item::Word));
+            at = (at + length) % self.state.ring_len;
+            if w && w_is_good {
+                self.queue.push_back(Item::ToZero);
+                at = 0;
+            }
+        }
+    }
+
+    /// Stores one queued item, if there is a free word for it.
+    fn feed_one(&mut self) -> bool {
+        if self.queue.is_empty() {
+            self.think();
+        }
+        let size = self.state.ring_len;
+        match self.queue.front().copied() {
+            Some(Item::Word(word)) if (self.tip + 1) % size != self.state.read => {
+                self.store(self.tip, word);
+                self.tip = (self.tip + 1) % size;
+            }
+            Some(Item::ToZero) => {
+                let to_zero = self.distance(self.state.read, 0);
+                if self.tip != 0 && (self.state.read == 0 || to_zero < self.distance(self.state.read, self.tip)) {
+                    return false;
+                }
+                self.tip = 0;
+            }
+            _ => return false,
+        }
+        self.queue.pop_front();
+        true
+    }
+
+    /// Publishes some, or all, of what was stored.
+    fn publish_some(&mut self) {
+        let stored = self.distance(self.state.write, self.tip);
+        if stored == 0 {
+            return;
+        }
+        let step = match self.rng.below(5) {
+            0 => 1,
+            1 | 2 => stored,
+            3 => stored - 1,
+            _ => 1 + self.rng.below(u64::from(stored)) as u32,
+        };
+        let position = (self.state.write + step) % self.state.ring_len;
+        self.publish(position);
+    }
+
+    /// A position that nobody thought about.
+    fn publish_wild(&mut self) {
+        let size = self.state.ring_len;
+        let (read, write) = (self.state.read, self.state.write);
+        let position = match self.rng.below(12) {
+            0 => size,
+            1 => size + 1 + self.rng.below(4) as u32,
+            2 => u32::MAX,
+            3 | 4 => read,
+            5 | 6 => write,
+            7 | 8 => (write + size - 1) % size,
+            9 => (read + size - 1) % size, // room 0
+            _ => self.rng.below(u64::from(size)) as u32,
+        };
+        self.publish(position);
+        let reach = self.distance(self.state.read, self.tip);
+        if self.distance(self.state.read, self.state.write) > reach {
+            self.begin_again();
+        }
+    }
+
+    /// "the host may already have reused the words of the command being drawn"
+    fn reuse(&mut self) {
+        let size = self.state.ring_len;
+        let taken = self.distance(self.state.read, self.tip);
+        let free = (size - taken).min(17);
+        let back = 1 + self.rng.below(u64::from(free)) as u32;
+        if back < size - taken || taken == 0 {
+            let word = self.rng.stale();
+            self.store((self.state.read + size - back) % size, word);
+        }
+    }
+
+    fn step(&mut self) {
+        if self.state.stop != 0 {
+            match self.rng.below(10) {
+                0..=4 => {
+                    self.restart();
+                    self.begin_again();
+                }
+                5 => self.run_some(),
+                6 | 7 => {
+                    for _ in 0..self.rng.below(20) {
+                        self.feed_one();
+                    }
+                    self.publish_some();
+                }
+                8 => self.publish_wild(),
+                _ => self.ask_for_room(),
+            }
+            return;
+        }
+        match self.rng.below(40) {
+            0..=17 => {
+                let words = match self.rng.below(4) {
+                    0 => 1,
+                    1 => 17,
+                    2 => self.rng.between(1, 17),
+                    _ => self.rng.between(1, 60),
+                };
+                for _ in 0..words {
+                    if !self.feed_one() {
+                        self.publish_some();
+                        self.run_some();
+                        break;
+                    }
+                }
+                self.publish_some();
+            }
+            18..=32 => self.run_some(),
+            33 | 34 => self.publish_some(),
+            35 => self.ask_for_room(),
+            36 => self.publish_wild(),
+            37 => self.restart(), // refused by 7
+            _ => {
+                if self.state.place.is_some() {
+                    self.reuse();
+                }
+            }
+        }
+    }
+}
+
+/// A whole trace.
+pub fn trace(rng: &mut Rng) -> Vec<u8> {
+    let ring_len = match rng.below(5) {
+        0 | 1 => 64,
+        2 | 3 => rng.between(64, 110) as u32,
+        _ => rng.pick(&[128, 256, 1_000, 4_096]),
+    };
+    let frame_len = some_frame_length(rng).min(8_000);
+    let (state, _) = model::setup(ring_len, frame_len);
+    let most = rng.pick(&[6, 20, 60, 200]);
+    let records = rng.pick(&[60, 400, 1_000, 2_000]);
+    let mut host = Host {
+        rng,
+        records: vec![ring_len, frame_len],
+        state,
+        ring: vec![0; ring_len as usize],
+        frame: vec![0; frame_len as usize],
+        queue: VecDeque::new(),
+        tip: 0,
+        ahead: model::ZEROS.registers,
+        most,
+    };
+    if frame_len <= 2_000 {
+        let words = ground(host.rng, &mut host.ahead, frame_len);
+        host.queue.extend(words.into_iter().map(Item::Word));
+    }
+    while host.records.len() < 3 * records {
+        host.step();
+    }
+    host.run(u32::MAX);
+    bytes_of(&host.records)
+}
+
+/// A trace that is bad, or bad at some point, or whose setup is refused, with the name of its fault.
+pub fn damaged_trace(rng: &mut Rng) -> (&'static str, Vec<u8>) {
+    let mut bytes = trace(rng);
+    let set = |bytes: &mut Vec<u8>, index: usize, word: u32| bytes[4 * index..4 * index + 4].copy_from_slice(&word.to_le_bytes());
+    let records = (bytes.len() / 4 - 2) / 3;
+    let record = rng.below(records as u64) as usize;
+    match rng.below(9) {
+        0 => {
+            bytes.truncate(rng.below(8) as usize);
+            ("trace below two words", bytes)
+        }
+        1 => {
+            let cut = rng.between(1, 11) as usize;
+            bytes.truncate(8 + 12 * record + cut);
+            ("trace with a cut record", bytes)
+        }
+        2 => {
+            set(&mut bytes, 2 + 3 * record, rng.pick(&[5, 6, 256, u32::MAX]));
+            ("trace with an unknown op", bytes)
+        }
+        3 => {
+            let ring_len = u32::from_le_bytes([bytes[0], bytes[1], bytes[2], bytes[3]]);
+            set(&mut bytes, 2 + 3 * record, 0);
+            set(&mut bytes, 3 + 3 * record, rng.pick(&[ring_len, ring_len + 1, u32::MAX]));
+            ("trace with a store outside", bytes)
+        }
+        4 => {
+            set(&mut bytes, 0, rng.pick(&[4_097, 16_384, u32::MAX]));
+            ("trace with ring over the limit", bytes)
+        }
+        5 => {
+            set(&mut bytes, 1, rng.pick(&[32_769, u32::MAX]));
+            ("trace with frame over the limit", bytes)
+        }
+        6 => {
+            set(&mut bytes, 0, rng.pick(&[0, 1, 63]));
+            ("trace with ring refused", bytes)
+        }
+        7 => {
+            set(&mut bytes, 1, 0);
+            ("trace with frame refused", bytes)
+        }
+        _ => {
+            bytes.truncate(8);
+            ("trace of setup alone", bytes)
+        }
+    }
+}

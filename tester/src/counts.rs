@@ -1,0 +1,463 @@
+//! How often each refusal, answer and kind of drawing came up. A name in the list that never came up fails the run.
+
+use crate::cases::span;
+use crate::model::{self, field, Answer, Kind, Registers, State, Word};
+use crate::model::{BASE_OFFSET, BLT_MODE, CH3_MODE_STR, DST_OFFSET, RASTER_MODE, SRC_OFFSET, VECTOR_MODE, WID_HEIGHT};
+use crate::programs::{Call, Watch};
+use std::collections::BTreeMap;
+
+/// Refusals 3 and 4 are not here: the programs hand on the state that they were given and lend what they set up.
+const NEEDED: &[(&str, &[&str])] = &[
+    ("refusals", &["1", "2", "5", "6", "7", "21", "22", "23", "24", "25", "26", "27", "28"]),
+    (
+        "refused for",
+        &[
+            "21 kind", "21 reserved bit", "21 before the command is whole", "22 at ring word 0", "22 across the end",
+            "22 before the command is whole", "23 format", "23 alpha", "24 SM", "24 SR", "24 PM of a BLT", "24 PM of a vector", "24 ST",
+            "24 SI", "24 PI", "24 channel 3", "24 BASE_OFFSET", "25 width", "25 height", "25 length", "26 axial", "26 diagonal",
+            "27 BLT one byte before", "27 BLT one byte behind", "27 vector one byte before", "27 vector one byte behind",
+            "28 one byte before", "28 one byte behind", "28 with a code that reads no source",
+        ],
+    ),
+    (
+        "answers",
+        &["setup 0", "publish 0", "room 0", "restart 0", "run waiting", "run spent", "run stopped"],
+    ),
+    (
+        "calls",
+        &[
+            "budget 0", "budget 1", "budget exactly used, waiting", "budget exactly used, stopped", "budget one short", "budget huge",
+            "spent inside a BLT", "spent inside a vector", "spent between commands", "run on a stopped engine", "run on an empty ring",
+            "part of a command waits", "W waits for the ring's end", "W waits for the last word of the ring", "publish the same position",
+            "publish inside a command", "publish one word", "publish while drawing", "publish while stopped", "publish past the ring's end",
+            "ring full", "refused 6 at the read position", "refused 6 while stopped", "restart drops words", "room while drawing",
+            "room while stopped", "store over the command being drawn",
+        ],
+    ),
+    (
+        "drawn",
+        &[
+            "blt-solid", "blt-mono", "blt-mono-transparent", "blt-solid with PT set", "blt-source", "blt-no-source", "blt format 0000",
+            "blt format 0100", "blt format 0101", "blt format 0110", "blt format 1000", "vector format 0000", "vector format 0100",
+            "vector format 0101", "vector format 0110", "vector format 1000", "blt X+ Y+", "blt X- Y+", "blt X+ Y-", "blt X- Y-",
+            "overlap 8 bpp", "overlap 16 bpp", "overlap 32 bpp", "overlap X+ Y+", "overlap X- Y+", "overlap X+ Y-", "overlap X- Y-",
+            "overlap inside a pixel", "blt stride 0", "blt source stride 0", "blt first byte", "blt last byte", "blt source first byte",
+            "blt source last byte", "blt of 4095", "vector X+ minor +", "vector X+ minor -", "vector X- minor +", "vector X- minor -",
+            "vector Y+ minor +", "vector Y+ minor -", "vector Y- minor +", "vector Y- minor -", "vector length 1",
+            "vector over 100 pixels", "vector error 0", "vector stride 0", "vector axial 32767", "vector diagonal -32768",
+            "vector initial 32767", "vector initial -32768", "vector first byte", "vector last byte", "vector with its extreme inside",
+            "idle bits set", "S set", "stale word skipped", "all enables", "kept RASTER_MODE", "kept WID_HEIGHT", "kept VEC_LEN",
+            "BLT on VEC_LEN", "BLT on VEC_ERR", "vector on WID_HEIGHT", "vector on SRC_OFFSET", "load only BLT", "load only vector",
+            "load only of bad values", "BLT across the end", "vector across the end", "W on a BLT", "W on a vector",
+            "W ending at the ring's end", "W with words skipped", "retired by load", "retired by last pixel",
+        ],
+    ),
+    (
+        "inputs",
+        &[
+            "recording", "trace", "recording one byte short", "recording one byte long", "recording one word off", "recording empty",
+            "recording below 16 bytes", "recording with ring over the limit", "recording with frame over the limit",
+            "recording with ring refused", "recording with frame refused", "recording with position refused", "trace below two words",
+            "trace with a cut record", "trace with an unknown op", "trace with a store outside", "trace with ring over the limit",
+            "trace with frame over the limit", "trace with ring refused", "trace with frame refused", "trace of setup alone",
+        ],
+    ),
+];
+
+pub struct Counts {
+    count: BTreeMap<&'static str, u64>,
+    blt_codes: [u64; 256],
+    vector_codes: [u64; 256],
+    opaque_origins: [u64; 64],
+    transparent_origins: [u64; 64],
+    portions: [u64; 18],
+    pub units: u64,
+    /// which kind of command wrote registers 2 and 4 last, in this case
+    wrote: [Option<Kind>; 2],
+    /// the first word and the length of the command loaded last
+    loaded: (u32, u32),
+}
+
+impl Counts {
+    pub fn new() -> Counts {
+        let mut count = BTreeMap::new();
+        for (_, names) in NEEDED {
+            for name in *names {
+                count.insert(*name, 0);
+            }
+        }
+        Counts {
+            count,
+            blt_codes: [0; 256],
+            vector_codes: [0; 256],
+            opaque_origins: [0; 64],
+            transparent_origins: [0; 64],
+            portions: [0; 18],
+            units: 0,
+            wrote: [None, None],
+            loaded: (0, 0),
+        }
+    }
+
+    pub fn begin_case(&mut self) {
+        self.wrote = [None, None];
+        self.loaded = (0, 0);
+    }
+
+    pub fn hit(&mut self, name: &str) {
+        match self.count.get_mut(name) {
+            Some(count) => *count += 1,
+            None => panic!("no such name in the list: {name}"),
+        }
+    }
+
+    fn hit_if(&mut self, condition: bool, name: &str) {
+        if condition {
+            self.hit(name);
+        }
+    }
+
+    /// Prints all counts; true if none is zero.
+    pub fn report(&self) -> bool {
+        let mut missing = Vec::new();
+        for (group, names) in NEEDED {
+            println!("{group}:");
+            for name in *names {
+                let count = self.count[name];
+                println!("  {name}: {count}");
+                if count == 0 {
+                    missing.push(format!("{group}: {name}"));
+                }
+            }
+        }
+        println!("sets, all of which must come up:");
+        let sets: [(&str, &[u64]); 5] = [
+            ("raster codes of BLTs", &self.blt_codes),
+            ("raster codes of vectors", &self.vector_codes),
+            ("origins of opaque mono patterns", &self.opaque_origins),
+            ("origins of transparent mono patterns", &self.transparent_origins),
+            ("portions of 0 to 16 words and more", &self.portions),
+        ];
+        for (name, set) in sets {
+            let seen = set.iter().filter(|count| **count > 0).count();
+            println!("  {name}: {seen} of {}", set.len());
+            if seen < set.len() {
+                missing.push(name.to_string());
+            }
+        }
+        println!("units: {}", self.units);
+        for name in &missing {
+            println!("never came up: {name}");
+        }
+        missing.is_empty()
+    }
+
+    fn refused_command(&mut self, before: &State, ring: &[u32], number: u32) {
+        self.hit(&number.to_string());
+        let header = ring[before.read as usize];
+        let kind = match model::kind_of(header) {
+            Some(kind) => kind,
+            None => {
+                self.hit("21 kind");
+                self.hit_if(model::waiting(before) < 14, "21 before the command is whole");
+                return;
+            }
+        };
+        let part = model::waiting(before) < model::command_length(kind);
+        let r = model::registers_after(before, ring, kind);
+        let raster = r[RASTER_MODE];
+        let blt = kind == Kind::Blt;
+        let missed = |source: bool| {
+            let (low, high) = span(kind, &r, source);
+            (low == -1, high == i64::from(before.frame_len))
+        };
+        match number {
+            21 => {
+                self.hit("21 reserved bit");
+                self.hit_if(part, "21 before the command is whole");
+            }
+            22 => {
+                self.hit(if before.read == 0 { "22 at ring word 0" } else { "22 across the end" });
+                self.hit_if(part, "22 before the command is whole");
+            }
+            23 => {
+                let format = model::bytes_per_pixel(&r).is_none();
+                self.hit_if(format, "23 format");
+                self.hit_if(!format, "23 alpha");
+            }
+            24 => {
+                self.hit_if(blt && field(r[BLT_MODE], 7, 6) != 0, "24 SM");
+                self.hit_if(blt && field(r[BLT_MODE], 1, 0) > 1, "24 SR");
+                self.hit_if(blt && field(raster, 9, 8) > 1, "24 PM of a BLT");
+                self.hit_if(!blt && field(raster, 9, 8) != 0, "24 PM of a vector");
+                self.hit_if(field(raster, 11, 11) == 1, "24 ST");
+                self.hit_if(field(raster, 12, 12) == 1, "24 PI");
+                self.hit_if(field(raster, 13, 13) == 1, "24 SI");
+                self.hit_if(field(r[CH3_MODE_STR], 31, 31) == 1, "24 channel 3");
+                self.hit_if(r[BASE_OFFSET] != 0, "24 BASE_OFFSET");
+            }
+            25 => {
+                self.hit_if(blt && model::width(&r) == 0, "25 width");
+                self.hit_if(blt && model::height(&r) == 0, "25 height");
+                self.hit_if(!blt, "25 length");
+            }
+            26 => {
+                self.hit_if(model::axial(&r) < 0, "26 axial");
+                self.hit_if(model::diagonal(&r) > 0, "26 diagonal");
+            }
+            27 => {
+                let (low, high) = missed(false);
+                self.hit_if(low, if blt { "27 BLT one byte before" } else { "27 vector one byte before" });
+                self.hit_if(high, if blt { "27 BLT one byte behind" } else { "27 vector one byte behind" });
+            }
+            _ => {
+                let (low, high) = missed(true);
+                self.hit_if(low, "28 one byte before");
+                self.hit_if(high, "28 one byte behind");
+                // the code gives the same for both source bits
+                let code = field(raster, 7, 0);
+                self.hit_if((code >> 2) & 0x33 == code & 0x33, "28 with a code that reads no source");
+            }
+        }
+    }
+
+    fn loaded_command(&mut self, before: &State, ring: &[u32], after: &State) {
+        let header = ring[before.read as usize];
+        let kind = match model::kind_of(header) {
+            Some(kind) => kind,
+            None => return,
+        };
+        let blt = kind == Kind::Blt;
+        let list = model::words_of(kind);
+        let length = model::command_length(kind);
+        let enabled = |i: usize| (header >> i) & 1 == 1;
+        self.loaded = (before.read, length);
+
+        // the ring
+        let end = before.read + length;
+        self.hit_if(end > before.ring_len, if blt { "BLT across the end" } else { "vector across the end" });
+        if model::has_w(header) {
+            self.hit(if blt { "W on a BLT" } else { "W on a vector" });
+            self.hit(if end == before.ring_len { "W ending at the ring's end" } else { "W with words skipped" });
+        }
+        self.hit_if(field(header, 28, 28) == 1, "S set");
+        self.hit_if((0..list.len()).all(enabled), "all enables");
+        let skipped = |i: usize| {
+            let word = ring[((before.read as usize) + 1 + i) % ring.len()];
+            !enabled(i) && word != before.registers[list[i]]
+        };
+        self.hit_if((0..list.len()).any(skipped), "stale word skipped");
+
+        // what writes registers 2 and 4
+        let draws = model::draws(kind, header);
+        let other = if blt { Kind::Vector } else { Kind::Blt };
+        let names = if blt { ["BLT on VEC_ERR", "BLT on VEC_LEN"] } else { ["vector on SRC_OFFSET", "vector on WID_HEIGHT"] };
+        for (slot, register) in [SRC_OFFSET, WID_HEIGHT].iter().enumerate() {
+            if enabled(*register) {
+                self.wrote[slot] = Some(kind);
+            }
+            let used = !blt || *register == WID_HEIGHT || model::source_selected(&after.registers);
+            self.hit_if(draws && used && self.wrote[slot] == Some(other), names[slot]);
+        }
+
+        if !draws {
+            self.hit(if blt { "load only BLT" } else { "load only vector" });
+            self.hit_if(model::judge(kind, &after.registers, after.frame_len) != 0, "load only of bad values");
+            self.hit("retired by load");
+            return;
+        }
+        self.hit_if(!enabled(RASTER_MODE), "kept RASTER_MODE");
+        self.hit_if(!enabled(WID_HEIGHT), if blt { "kept WID_HEIGHT" } else { "kept VEC_LEN" });
+        self.drawing(kind, &after.registers, i64::from(after.frame_len));
+    }
+
+    fn drawing(&mut self, kind: Kind, r: &Registers, frame_len: i64) {
+        let raster = r[RASTER_MODE];
+        let depth = model::bytes_per_pixel(r).unwrap_or(1);
+        let code = field(raster, 7, 0) as usize;
+        let idle = raster & 0x0F3F_C000 != 0;
+        self.hit_if(idle, "idle bits set");
+        let (low, high) = span(kind, r, false);
+        if kind == Kind::Vector {
+            self.vector_codes[code] += 1;
+            self.hit(&format!("vector format {:04b}", field(raster, 31, 28)));
+            let mode = r[VECTOR_MODE];
+            let axis = if field(mode, 0, 0) == 1 { "Y" } else { "X" };
+            let sign = |bit: u32| if field(mode, bit, bit) == 1 { "+" } else { "-" };
+            self.hit(&format!("vector {axis}{} minor {}", sign(1), sign(2)));
+            let pixels: Vec<_> = model::vector_pixels(r, depth).collect();
+            self.hit_if(pixels.len() == 1, "vector length 1");
+            self.hit_if(pixels.len() > 100, "vector over 100 pixels");
+            self.hit_if(pixels[..pixels.len() - 1].iter().any(|pixel| pixel.error == 0), "vector error 0");
+            self.hit_if(pixels.len() > 1 && model::destination_stride(r) == 0, "vector stride 0");
+            self.hit_if(pixels.len() > 1 && model::axial(r) == 32_767, "vector axial 32767");
+            self.hit_if(pixels.len() > 1 && model::diagonal(r) == -32_768, "vector diagonal -32768");
+            self.hit_if(pixels.len() > 1 && model::initial_error(r) == 32_767, "vector initial 32767");
+            self.hit_if(pixels.len() > 1 && model::initial_error(r) == -32_768, "vector initial -32768");
+            self.hit_if(low == 0, "vector first byte");
+            self.hit_if(high == frame_len - 1, "vector last byte");
+            let ends = [pixels[0].position, pixels[pixels.len() - 1].position];
+            let inner = !ends.contains(&low) || !ends.contains(&(high - depth + 1));
+            self.hit_if(inner, "vector with its extreme inside");
+            return;
+        }
+        self.blt_codes[code] += 1;
+        self.hit(&format!("blt format {:04b}", field(raster, 31, 28)));
+        let transparent = field(raster, 10, 10) == 1;
+        let origin = field(r[DST_OFFSET], 31, 26) as usize;
+        match (field(raster, 9, 8) == 1, transparent) {
+            (false, false) => self.hit("blt-solid"),
+            (false, true) => self.hit("blt-solid with PT set"),
+            (true, false) => {
+                self.hit("blt-mono");
+                self.opaque_origins[origin] += 1;
+            }
+            (true, true) => {
+                self.hit("blt-mono-transparent");
+                self.transparent_origins[origin] += 1;
+            }
+        }
+        let sign = |bit: u32| if field(r[BLT_MODE], bit, bit) == 1 { "-" } else { "+" };
+        let way = format!("X{} Y{}", sign(9), sign(8));
+        self.hit(&format!("blt {way}"));
+        let rows = model::height(r) > 1;
+        self.hit_if(rows && model::destination_stride(r) == 0, "blt stride 0");
+        self.hit_if(low == 0, "blt first byte");
+        self.hit_if(high == frame_len - 1, "blt last byte");
+        self.hit_if(model::width(r) == 4_095 || model::height(r) == 4_095, "blt of 4095");
+        if !model::source_selected(r) {
+            self.hit("blt-no-source");
+            return;
+        }
+        self.hit("blt-source");
+        self.hit_if(rows && model::source_stride(r) == 0, "blt source stride 0");
+        let (first, last) = span(kind, r, true);
+        self.hit_if(first == 0, "blt source first byte");
+        self.hit_if(last == frame_len - 1, "blt source last byte");
+        let apart = (model::source_offset(r) - model::destination_offset(r)).abs();
+        if first <= high && low <= last && apart != 0 {
+            self.hit(&format!("overlap {} bpp", 8 * depth));
+            self.hit(&format!("overlap {way}"));
+            self.hit_if(apart < depth, "overlap inside a pixel");
+        }
+    }
+}
+
+/// The write pointer stands inside a command: its header waits, its last word does not.
+fn ends_inside(state: &State, ring: &[u32]) -> bool {
+    let mut at = state.read as usize;
+    let mut left = model::waiting(state);
+    while left > 0 {
+        match model::kind_of(ring[at]) {
+            Some(kind) if left < model::command_length(kind) => return true,
+            Some(kind) if !model::has_w(ring[at]) => {
+                at = (at + model::command_length(kind) as usize) % ring.len();
+                left -= model::command_length(kind);
+            }
+            _ => return false,
+        }
+    }
+    false
+}
+
+impl Watch for Counts {
+    fn unit(&mut self, before: &State, ring: &[u32], after: &State) {
+        self.units += 1;
+        if before.place.is_some() {
+            self.hit_if(after.place.is_none(), "retired by last pixel");
+        } else if after.stop != 0 {
+            self.refused_command(before, ring, after.stop);
+        } else {
+            self.loaded_command(before, ring, after);
+        }
+    }
+
+    fn call(&mut self, call: Call, before: &State, ring: &[u32], answer: &Answer, after: &State) {
+        if let Word::Refused(number) = answer.word {
+            self.hit(&number.to_string());
+            if let Call::Publish(position) = call {
+                self.hit_if(number == 6 && position == before.read, "refused 6 at the read position");
+                self.hit_if(number == 6 && before.stop != 0, "refused 6 while stopped");
+            }
+            return;
+        }
+        let drawing = before.place.is_some();
+        let stopped = before.stop != 0;
+        match call {
+            Call::Setup => self.hit("setup 0"),
+            Call::Room => {
+                self.hit("room 0");
+                self.hit_if(drawing, "room while drawing");
+                self.hit_if(stopped, "room while stopped");
+            }
+            Call::Restart => {
+                self.hit("restart 0");
+                self.hit_if(before.read != before.write, "restart drops words");
+            }
+            Call::Publish(position) => {
+                self.hit("publish 0");
+                let portion = model::waiting(after) - model::waiting(before);
+                self.portions[(portion as usize).min(17)] += 1;
+                self.hit_if(portion == 0, "publish the same position");
+                self.hit_if(portion == 1, "publish one word");
+                self.hit_if(drawing && portion > 0, "publish while drawing");
+                self.hit_if(stopped && portion > 0, "publish while stopped");
+                self.hit_if(position < before.write, "publish past the ring's end");
+                self.hit_if(answer.room == 0, "ring full");
+                self.hit_if(portion > 0 && ends_inside(after, ring), "publish inside a command");
+            }
+            Call::Run(budget) => self.run_answer(budget, before, ring, answer, after),
+        }
+    }
+
+    fn store(&mut self, state: &State, position: u32) {
+        let (first, length) = self.loaded;
+        if state.place.is_some() && state.ring_len > 0 {
+            let into = (position + state.ring_len - first) % state.ring_len;
+            self.hit_if(into < length, "store over the command being drawn");
+        }
+    }
+}
+
+impl Counts {
+    fn run_answer(&mut self, budget: u32, before: &State, ring: &[u32], answer: &Answer, after: &State) {
+        self.hit_if(budget == 0, "budget 0");
+        self.hit_if(budget == 1, "budget 1");
+        self.hit_if(budget >= 1 << 31, "budget huge");
+        let used = budget > 0 && answer.units == budget;
+        match answer.word {
+            Word::Waiting => {
+                self.hit("run waiting");
+                self.hit_if(used, "budget exactly used, waiting");
+                let waiting = model::waiting(after);
+                self.hit_if(answer.units == 0 && waiting == 0, "run on an empty ring");
+                if waiting > 0 {
+                    let header = ring[after.read as usize];
+                    let length = model::kind_of(header).map_or(0, model::command_length);
+                    self.hit_if(waiting < length, "part of a command waits");
+                    self.hit_if(waiting >= length, "W waits for the ring's end");
+                    self.hit_if(
+                        waiting >= length && after.write == after.ring_len - 1,
+                        "W waits for the last word of the ring",
+                    );
+                }
+            }
+            Word::Spent => {
+                self.hit("run spent");
+                match after.place {
+                    Some(place) => {
+                        self.hit(if place.kind == Kind::Blt { "spent inside a BLT" } else { "spent inside a vector" });
+                        let left = model::pixel_count(place.kind, &after.registers) - place.drawn;
+                        self.hit_if(left == 1 && used, "budget one short");
+                    }
+                    None => self.hit_if(used, "spent between commands"),
+                }
+            }
+            _ => {
+                self.hit("run stopped");
+                self.hit_if(used, "budget exactly used, stopped");
+                self.hit_if(before.stop != 0, "run on a stopped engine");
+            }
+        }
+    }
+}

@@ -1,0 +1,669 @@
+//! A second drawing engine, written from document 01 alone, to be read beside it.
+//!
+//! It is slow on purpose: it works unit by unit, finds the bounds by going through every byte of every pixel, and does the raster
+//! operation bit by bit. The quotations are document 01's.
+
+// ---- Registers ------------------------------------------------------------------------------------------------------------------
+
+/// "Names at the same register offset in 000's summary are one register": VEC_ERR is SRC_OFFSET, VEC_LEN is WID_HEIGHT.
+pub const RASTER_MODE: usize = 0;
+pub const DST_OFFSET: usize = 1;
+pub const SRC_OFFSET: usize = 2;
+pub const VEC_ERR: usize = SRC_OFFSET;
+pub const STRIDE: usize = 3;
+pub const WID_HEIGHT: usize = 4;
+pub const VEC_LEN: usize = WID_HEIGHT;
+pub const SRC_COLOR_FG: usize = 5;
+pub const SRC_COLOR_BG: usize = 6;
+pub const PAT_COLOR_0: usize = 7;
+pub const PAT_COLOR_1: usize = 8;
+pub const PAT_DATA_0: usize = 9;
+pub const PAT_DATA_1: usize = 10;
+pub const CH3_OFFSET: usize = 11;
+pub const CH3_MODE_STR: usize = 12;
+pub const CH3_WIDHI: usize = 13;
+pub const BASE_OFFSET: usize = 14;
+pub const BLT_MODE: usize = 15;
+pub const VECTOR_MODE: usize = 16;
+
+pub type Registers = [u32; 17];
+
+/// "BLT, 17 words, enables 15:0": the register of each word after the header.
+pub const BLT_WORDS: [usize; 16] = [
+    RASTER_MODE, DST_OFFSET, SRC_OFFSET, STRIDE, WID_HEIGHT, SRC_COLOR_FG, SRC_COLOR_BG, PAT_COLOR_0, PAT_COLOR_1, PAT_DATA_0,
+    PAT_DATA_1, CH3_OFFSET, CH3_MODE_STR, CH3_WIDHI, BASE_OFFSET, BLT_MODE,
+];
+
+/// "Vector, 14 words, enables 12:0".
+pub const VECTOR_WORDS: [usize; 13] = [
+    RASTER_MODE, DST_OFFSET, VEC_ERR, STRIDE, VEC_LEN, SRC_COLOR_FG, PAT_COLOR_0, PAT_COLOR_1, PAT_DATA_0, PAT_DATA_1,
+    CH3_MODE_STR, BASE_OFFSET, VECTOR_MODE,
+];
+
+#[derive(Clone, Copy, PartialEq, Eq, Debug)]
+pub enum Kind {
+    Blt,
+    Vector,
+}
+
+/// The registers of the words after a header of this kind, in their order.
+pub fn words_of(kind: Kind) -> &'static [usize] {
+    match kind {
+        Kind::Blt => &BLT_WORDS,
+        Kind::Vector => &VECTOR_WORDS,
+    }
+}
+
+/// Words of a whole command, header included: 17 or 14.
+pub fn command_length(kind: Kind) -> u32 {
+    words_of(kind).len() as u32 + 1
+}
+
+/// Bits high:low of a word.
+pub fn field(word: u32, high: u32, low: u32) -> u32 {
+    let below_high = (1u64 << (high + 1)) - 1;
+    ((u64::from(word) & below_high) >> low) as u32
+}
+
+fn signed16(value: u32) -> i64 {
+    i64::from(value as u16 as i16)
+}
+
+// ---- State and answers ----------------------------------------------------------------------------------------------------------
+
+/// "the place in a command being drawn": its kind and how many of its pixels are drawn; all else follows by its own steps.
+#[derive(Clone, Copy, PartialEq, Eq, Debug)]
+pub struct Place {
+    pub kind: Kind,
+    pub drawn: i64,
+}
+
+/// "registers, two pointers, ring and frame lengths, completion number, stop number, and the place in a command being drawn, or none"
+#[derive(Clone, Copy, PartialEq, Eq, Debug)]
+pub struct State {
+    pub registers: Registers,
+    pub read: u32,
+    pub write: u32,
+    pub ring_len: u32,
+    pub frame_len: u32,
+    pub completion: u32,
+    pub stop: u32,
+    pub place: Option<Place>,
+}
+
+/// "a state of all zeros"
+pub const ZEROS: State =
+    State { registers: [0; 17], read: 0, write: 0, ring_len: 0, frame_len: 0, completion: 0, stop: 0, place: None };
+
+/// "Accepted, each answers 0 (a run its word)"; "A refused call answers its number".
+#[derive(Clone, Copy, PartialEq, Eq, Debug)]
+pub enum Word {
+    Zero,
+    Waiting,
+    Spent,
+    Stopped,
+    Refused(u32),
+}
+
+#[derive(Clone, Copy, PartialEq, Eq, Debug)]
+pub struct Answer {
+    pub word: Word,
+    pub units: u32,
+    pub room: u32,
+}
+
+/// "A refused call answers its number, units 0 and room 0"
+fn refused(number: u32) -> Answer {
+    Answer { word: Word::Refused(number), units: 0, room: 0 }
+}
+
+fn accepted(state: &State) -> Answer {
+    Answer { word: Word::Zero, units: 0, room: room_of(state) }
+}
+
+// ---- The ring -------------------------------------------------------------------------------------------------------------------
+
+fn modulo(value: i64, size: u32) -> u32 {
+    value.rem_euclid(i64::from(size)) as u32
+}
+
+/// "Words waiting = (write - read) modulo ring size."
+pub fn waiting(state: &State) -> u32 {
+    modulo(i64::from(state.write) - i64::from(state.read), state.ring_len)
+}
+
+/// "Room = ring size - 1 - waiting."
+pub fn room_of(state: &State) -> u32 {
+    state.ring_len - 1 - waiting(state)
+}
+
+// ---- Calls ----------------------------------------------------------------------------------------------------------------------
+
+const RING_LENGTHS: std::ops::RangeInclusive<u32> = 64..=16_384;
+const FRAME_LENGTHS: std::ops::RangeInclusive<u32> = 1..=16_777_216;
+
+/// "After setup all registers, pointers and the completion number are zero"
+pub fn setup(ring_len: u32, frame_len: u32) -> (State, Answer) {
+    if !RING_LENGTHS.contains(&ring_len) {
+        return (ZEROS, refused(1));
+    }
+    if !FRAME_LENGTHS.contains(&frame_len) {
+        return (ZEROS, refused(2));
+    }
+    let state = State { ring_len, frame_len, ..ZEROS };
+    (state, accepted(&state))
+}
+
+/// Row 3, turned round: a state that any later call accepts.
+pub fn fit(state: &State) -> bool {
+    if !RING_LENGTHS.contains(&state.ring_len) || !FRAME_LENGTHS.contains(&state.frame_len) {
+        return false; // "a length outside 1 or 2"
+    }
+    if state.read >= state.ring_len || state.write >= state.ring_len {
+        return false; // "a pointer not below ring size"
+    }
+    if state.stop != 0 && !(21..=28).contains(&state.stop) {
+        return false; // "a stop number that is neither 0 nor one of 21 and above in this table"
+    }
+    match state.place {
+        None => true,
+        Some(place) => {
+            state.stop == 0 // "a stop together with a command in progress"
+                && judge(place.kind, &state.registers, state.frame_len) == 0
+                && (0..pixel_count(place.kind, &state.registers)).contains(&place.drawn)
+        }
+    }
+}
+
+/// "Publishing position p is accepted exactly when p is below the ring size and (p - read) modulo size is at least the words waiting."
+pub fn publish(state: State, position: u32) -> (State, Answer) {
+    if !fit(&state) {
+        return (state, refused(3));
+    }
+    if position >= state.ring_len {
+        return (state, refused(5));
+    }
+    if modulo(i64::from(position) - i64::from(state.read), state.ring_len) < waiting(&state) {
+        return (state, refused(6));
+    }
+    let state = State { write: position, ..state };
+    (state, accepted(&state))
+}
+
+pub fn room(state: State) -> (State, Answer) {
+    if !fit(&state) {
+        return (state, refused(3));
+    }
+    (state, accepted(&state))
+}
+
+/// "Restart clears the stop number and moves read to write; all else stays."
+pub fn restart(state: State) -> (State, Answer) {
+    if !fit(&state) {
+        return (state, refused(3));
+    }
+    if state.stop == 0 {
+        return (state, refused(7));
+    }
+    let state = State { stop: 0, read: state.write, ..state };
+    (state, accepted(&state))
+}
+
+/// "It does units until one of the first two holds or the budget is used." `seen` is shown the state before and after each unit.
+pub fn run(
+    state: State,
+    ring: &[u32],
+    frame: &mut [u8],
+    budget: u32,
+    seen: &mut dyn FnMut(&State, &[u32], &State),
+) -> (State, Answer) {
+    if !fit(&state) {
+        return (state, refused(3));
+    }
+    if ring.len() as u64 != u64::from(state.ring_len) || frame.len() as u64 != u64::from(state.frame_len) {
+        return (state, refused(4));
+    }
+    let mut state = state;
+    let mut units = 0;
+    let word = loop {
+        // "stopped, if a stop number stands; else waiting, if no further unit can be done; else spent"
+        if state.stop != 0 {
+            break Word::Stopped;
+        }
+        let next = next_unit(&state, ring);
+        if next == Unit::None {
+            break Word::Waiting;
+        }
+        if units == budget {
+            break Word::Spent;
+        }
+        let before = state;
+        do_unit(&mut state, ring, frame, next);
+        units += 1;
+        seen(&before, ring, &state);
+    };
+    (state, Answer { word, units, room: room_of(&state) })
+}
+
+// ---- Units ----------------------------------------------------------------------------------------------------------------------
+
+#[derive(Clone, Copy, PartialEq, Eq, Debug)]
+pub enum Unit {
+    None,
+    Refuse(u32),
+    Load(Kind),
+    Pixel,
+}
+
+/// The unit that a running engine would do now.
+pub fn next_unit(state: &State, ring: &[u32]) -> Unit {
+    if state.place.is_some() {
+        return Unit::Pixel;
+    }
+    if waiting(state) == 0 {
+        return Unit::None; // "Equal pointers mean empty."
+    }
+    // "21 and 22 are judged as soon as the header waits"
+    let header = ring[state.read as usize];
+    let kind = match kind_of(header) {
+        Some(kind) if reserved_bits(kind, header) == 0 => kind,
+        _ => return Unit::Refuse(21),
+    };
+    let length = command_length(kind);
+    if has_w(header) && (state.read == 0 || state.read + length > state.ring_len) {
+        return Unit::Refuse(22);
+    }
+    // "It is whole when all its words wait and, with W, when the words waiting also reach the ring's end."
+    if waiting(state) < length {
+        return Unit::None;
+    }
+    if has_w(header) && waiting(state) < state.ring_len - state.read {
+        return Unit::None;
+    }
+    // "23 to 28 only for commands that draw, on the registers as they would be after loading"
+    if draws(kind, header) {
+        let number = judge(kind, &registers_after(state, ring, kind), state.frame_len);
+        if number != 0 {
+            return Unit::Refuse(number);
+        }
+    }
+    Unit::Load(kind)
+}
+
+fn do_unit(state: &mut State, ring: &[u32], frame: &mut [u8], unit: Unit) {
+    match unit {
+        Unit::None => {}
+        // "Refusing a command costs one unit and moves nothing but the stop number"
+        Unit::Refuse(number) => state.stop = number,
+        // "Loading moves the read pointer and enabled registers."
+        Unit::Load(kind) => {
+            let header = ring[state.read as usize];
+            state.registers = registers_after(state, ring, kind);
+            // "After it, read moves past it, or to 0 with W"
+            state.read = if has_w(header) {
+                0
+            } else {
+                modulo(i64::from(state.read) + i64::from(command_length(kind)), state.ring_len)
+            };
+            if draws(kind, header) {
+                state.place = Some(Place { kind, drawn: 0 });
+            } else {
+                retire(state); // "or by its load if it draws nothing"
+            }
+        }
+        Unit::Pixel => {
+            if let Some(place) = state.place {
+                match place.kind {
+                    Kind::Blt => draw_blt_pixel(&state.registers, frame, place.drawn),
+                    Kind::Vector => draw_vector_pixel(&state.registers, frame, place.drawn),
+                }
+                let drawn = place.drawn + 1;
+                if drawn == pixel_count(place.kind, &state.registers) {
+                    state.place = None;
+                    retire(state); // "A command is retired by its last pixel"
+                } else {
+                    state.place = Some(Place { drawn, ..place });
+                }
+            }
+        }
+    }
+}
+
+/// "a u32 that wraps on purpose, from 4,294,967,295 to 0"
+fn retire(state: &mut State) {
+    state.completion = state.completion.wrapping_add(1);
+}
+
+// ---- Command words --------------------------------------------------------------------------------------------------------------
+
+/// "bit 31 W (return to ring word 0 afterwards)"
+pub fn has_w(header: u32) -> bool {
+    field(header, 31, 31) == 1
+}
+
+/// "bits 30:29 kind (00 BLT, 01 vector)"
+pub fn kind_of(header: u32) -> Option<Kind> {
+    match field(header, 30, 29) {
+        0 => Some(Kind::Blt),
+        1 => Some(Kind::Vector),
+        _ => None,
+    }
+}
+
+/// "All other header bits are zero": those between S (bit 28) and the write enables.
+fn reserved_bits(kind: Kind, header: u32) -> u32 {
+    match kind {
+        Kind::Blt => field(header, 27, 16),
+        Kind::Vector => field(header, 27, 13),
+    }
+}
+
+/// "If the last enable (BLT 15, vector 12) is clear, the command only loads its enabled registers."
+pub fn draws(kind: Kind, header: u32) -> bool {
+    match kind {
+        Kind::Blt => field(header, 15, 15) == 1,
+        Kind::Vector => field(header, 12, 12) == 1,
+    }
+}
+
+/// "Bit i enables word i after the header, counted from 0; a clear bit means the word is present and skipped."
+pub fn registers_after(state: &State, ring: &[u32], kind: Kind) -> Registers {
+    let header = ring[state.read as usize];
+    let mut registers = state.registers;
+    for (i, register) in words_of(kind).iter().enumerate() {
+        if (header >> i) & 1 == 1 {
+            let position = modulo(i64::from(state.read) + 1 + i as i64, state.ring_len);
+            registers[*register] = ring[position as usize];
+        }
+    }
+    registers
+}
+
+// ---- Judging --------------------------------------------------------------------------------------------------------------------
+
+/// "The colour format is a decision over all sixteen codes"
+pub fn bytes_per_pixel(registers: &Registers) -> Option<i64> {
+    match field(registers[RASTER_MODE], 31, 28) {
+        0b0000 => Some(1),
+        0b0100 | 0b0101 | 0b0110 => Some(2),
+        0b1000 => Some(4),
+        _ => None,
+    }
+}
+
+/// Refusals 23 to 28 of a command that draws, or 0. "Where several apply the lowest wins."
+pub fn judge(kind: Kind, registers: &Registers, frame_len: u32) -> u32 {
+    let raster = registers[RASTER_MODE];
+    let mode = registers[BLT_MODE];
+
+    // 23: "colour format not one of the five below, or alpha enabled"
+    let depth = match bytes_per_pixel(registers) {
+        Some(depth) => depth,
+        None => return 23,
+    };
+    if field(raster, 23, 22) != 0 {
+        return 23;
+    }
+
+    // 24: "a source or pattern mode field with a code not carried (used by the pixels or not; BLT_MODE is judged for a BLT only)"
+    let pattern_mode = field(raster, 9, 8);
+    match kind {
+        Kind::Blt => {
+            let source_mode = field(mode, 7, 6);
+            let source_select = field(mode, 1, 0);
+            if source_mode != 0 || source_select > 1 || pattern_mode > 1 {
+                return 24;
+            }
+        }
+        Kind::Vector => {
+            if pattern_mode != 0 {
+                return 24; // "a vector with a pattern that isn't solid"
+            }
+        }
+    }
+    let source_inversion = field(raster, 13, 13) == 1;
+    let pattern_inversion = field(raster, 12, 12) == 1;
+    let source_transparency = field(raster, 11, 11) == 1;
+    if source_transparency || source_inversion || pattern_inversion {
+        return 24;
+    }
+    let channel_3 = field(registers[CH3_MODE_STR], 31, 31) == 1;
+    if channel_3 || registers[BASE_OFFSET] != 0 {
+        return 24;
+    }
+
+    // 25: "width, height or vector length 0"
+    if pixel_count(kind, registers) == 0 {
+        return 25;
+    }
+
+    // 26: "vector axial term below 0 or diagonal term above 0"
+    if kind == Kind::Vector && (axial(registers) < 0 || diagonal(registers) > 0) {
+        return 26;
+    }
+
+    // 27: "some byte of some destination pixel lies outside frame memory"
+    let inside = |first: i64| (0..depth).all(|byte| (0..i64::from(frame_len)).contains(&(first + byte)));
+    let destinations_inside = match kind {
+        Kind::Blt => (0..pixel_count(kind, registers)).all(|k| inside(blt_pixel(registers, depth, k).destination)),
+        Kind::Vector => vector_pixels(registers, depth).all(|pixel| inside(pixel.position)),
+    };
+    if !destinations_inside {
+        return 27;
+    }
+
+    // 28: "a BLT's source select is frame memory, whatever the raster code, and some byte of some source pixel lies outside"
+    if kind == Kind::Blt
+        && source_selected(registers)
+        && !(0..pixel_count(kind, registers)).all(|k| inside(blt_pixel(registers, depth, k).source))
+    {
+        return 28;
+    }
+    0
+}
+
+/// Width times height of a BLT; "LENGTH pixels are drawn" of a vector.
+pub fn pixel_count(kind: Kind, registers: &Registers) -> i64 {
+    match kind {
+        Kind::Blt => width(registers) * height(registers),
+        Kind::Vector => i64::from(field(registers[VEC_LEN], 27, 16)),
+    }
+}
+
+pub fn width(registers: &Registers) -> i64 {
+    i64::from(field(registers[WID_HEIGHT], 27, 16))
+}
+
+pub fn height(registers: &Registers) -> i64 {
+    i64::from(field(registers[WID_HEIGHT], 11, 0))
+}
+
+pub fn source_selected(registers: &Registers) -> bool {
+    field(registers[BLT_MODE], 1, 0) == 1
+}
+
+pub fn destination_offset(registers: &Registers) -> i64 {
+    i64::from(field(registers[DST_OFFSET], 23, 0))
+}
+
+pub fn source_offset(registers: &Registers) -> i64 {
+    i64::from(field(registers[SRC_OFFSET], 23, 0))
+}
+
+pub fn destination_stride(registers: &Registers) -> i64 {
+    i64::from(field(registers[STRIDE], 15, 0))
+}
+
+pub fn source_stride(registers: &Registers) -> i64 {
+    i64::from(field(registers[STRIDE], 31, 16))
+}
+
+/// "Axial, diagonal and initial error are signed 16-bit."
+pub fn axial(registers: &Registers) -> i64 {
+    signed16(field(registers[VEC_ERR], 31, 16))
+}
+
+pub fn diagonal(registers: &Registers) -> i64 {
+    signed16(field(registers[VEC_ERR], 15, 0))
+}
+
+pub fn initial_error(registers: &Registers) -> i64 {
+    signed16(field(registers[VEC_LEN], 15, 0))
+}
+
+// ---- A BLT pixel ----------------------------------------------------------------------------------------------------------------
+
+pub struct BltPixel {
+    pub destination: i64,
+    pub source: i64,
+    pub pattern_row: i64,
+    pub pattern_column: i64,
+}
+
+/// Pixel number k, "Rows are drawn in order, columns in order within a row." "Positions are signed whole numbers, never reduced."
+pub fn blt_pixel(registers: &Registers, depth: i64, k: i64) -> BltPixel {
+    let mode = registers[BLT_MODE];
+    let i = k % width(registers);
+    let j = k / width(registers);
+    // "i pixels further, or back if X is negative, and j destination strides further, or back if Y is negative"
+    let steps_x = if field(mode, 9, 9) == 1 { -i } else { i };
+    let steps_y = if field(mode, 8, 8) == 1 { -j } else { j };
+    let offset_register = registers[DST_OFFSET];
+    BltPixel {
+        destination: destination_offset(registers) + steps_x * depth + steps_y * destination_stride(registers),
+        // "Source pixels go the same way with their own offset and stride."
+        source: source_offset(registers) + steps_x * depth + steps_y * source_stride(registers),
+        // "the offset register's Y and X low bits plus the signed steps from the first pixel, modulo 8"
+        pattern_row: (i64::from(field(offset_register, 31, 29)) + steps_y).rem_euclid(8),
+        pattern_column: (i64::from(field(offset_register, 28, 26)) + steps_x).rem_euclid(8),
+    }
+}
+
+/// "PAT_DATA_0 holding rows 0 to 3 with row 0 in its lowest byte, PAT_DATA_1 rows 4 to 7, bit 7 leftmost"
+pub fn pattern_bit(registers: &Registers, row: i64, column: i64) -> bool {
+    let data = if row < 4 { registers[PAT_DATA_0] } else { registers[PAT_DATA_1] };
+    let row_byte = (data >> (8 * (row % 4))) & 0xFF;
+    (row_byte >> (7 - column)) & 1 == 1
+}
+
+/// "Each pixel reads source, pattern and destination as memory then stands, and writes the destination."
+fn draw_blt_pixel(registers: &Registers, frame: &mut [u8], k: i64) {
+    let raster = registers[RASTER_MODE];
+    let depth = bytes_per_pixel(registers).unwrap_or(0);
+    let pixel = blt_pixel(registers, depth, k);
+    // "With no source selected the source value is SRC_COLOR_FG."
+    let source = if source_selected(registers) {
+        read_pixel(frame, pixel.source, depth)
+    } else {
+        registers[SRC_COLOR_FG]
+    };
+    let mono = field(raster, 9, 8) == 1;
+    let transparent = field(raster, 10, 10) == 1;
+    // "Set gives PAT_COLOR_1, clear PAT_COLOR_0"
+    let set = mono && pattern_bit(registers, pixel.pattern_row, pixel.pattern_column);
+    if mono && transparent && !set {
+        return; // "with pattern transparency a clear bit writes nothing, yet costs its unit"
+    }
+    let pattern = if set { registers[PAT_COLOR_1] } else { registers[PAT_COLOR_0] };
+    let destination = read_pixel(frame, pixel.destination, depth);
+    let result = raster_operation(field(raster, 7, 0), pattern, source, destination, 8 * depth);
+    write_pixel(frame, pixel.destination, depth, result);
+}
+
+/// "result bit = bit (4P + 2S + D) of the 8-bit code", for as many bits as a pixel has.
+pub fn raster_operation(code: u32, pattern: u32, source: u32, destination: u32, bits: i64) -> u32 {
+    let mut result = 0;
+    for bit in 0..bits {
+        let p = (pattern >> bit) & 1;
+        let s = (source >> bit) & 1;
+        let d = (destination >> bit) & 1;
+        result |= ((code >> (4 * p + 2 * s + d)) & 1) << bit;
+    }
+    result
+}
+
+/// "Pixels are little-endian and may start at any byte."
+fn read_pixel(frame: &[u8], first: i64, depth: i64) -> u32 {
+    let mut value = 0;
+    for byte in 0..depth {
+        value |= u32::from(frame[(first + byte) as usize]) << (8 * byte);
+    }
+    value
+}
+
+/// Writes the low bytes of the value: "Every colour register gives its low bytes at the depth."
+fn write_pixel(frame: &mut [u8], first: i64, depth: i64, value: u32) {
+    for byte in 0..depth {
+        frame[(first + byte) as usize] = (value >> (8 * byte)) as u8;
+    }
+}
+
+// ---- A vector pixel -------------------------------------------------------------------------------------------------------------
+
+/// A vector's pixels in order: the first byte of each, with the error as it stands there.
+pub struct VectorPixels {
+    left: i64,
+    position: i64,
+    error: i64,
+    axial: i64,
+    diagonal: i64,
+    major: i64,
+    minor: i64,
+}
+
+#[derive(Clone, Copy)]
+pub struct VectorPixel {
+    pub position: i64,
+    pub error: i64,
+}
+
+/// "A step in X is one pixel, a step in Y one destination stride; VECTOR_MODE gives the major axis and both signs."
+pub fn vector_pixels(registers: &Registers, depth: i64) -> VectorPixels {
+    let mode = registers[VECTOR_MODE];
+    let y_major = field(mode, 0, 0) == 1;
+    let stride = destination_stride(registers);
+    let (major_step, minor_step) = if y_major { (stride, depth) } else { (depth, stride) };
+    let signed = |step: i64, positive: u32| if positive == 1 { step } else { -step };
+    VectorPixels {
+        left: pixel_count(Kind::Vector, registers),
+        position: destination_offset(registers),
+        error: initial_error(registers),
+        axial: axial(registers),
+        diagonal: diagonal(registers),
+        major: signed(major_step, field(mode, 1, 1)),
+        minor: signed(minor_step, field(mode, 2, 2)),
+    }
+}
+
+impl Iterator for VectorPixels {
+    type Item = VectorPixel;
+
+    /// "Draw; if the error is below 0 take an axial step (major axis only) and add the axial term, else a diagonal step and add the
+    /// diagonal term."
+    fn next(&mut self) -> Option<VectorPixel> {
+        if self.left == 0 {
+            return None;
+        }
+        let pixel = VectorPixel { position: self.position, error: self.error };
+        self.left -= 1;
+        if self.error < 0 {
+            self.position += self.major;
+            self.error += self.axial;
+        } else {
+            self.position += self.major + self.minor;
+            self.error += self.diagonal;
+        }
+        Some(pixel)
+    }
+}
+
+/// "Source is SRC_COLOR_FG, pattern PAT_COLOR_0; the raster rule and destination reads are a BLT's."
+fn draw_vector_pixel(registers: &Registers, frame: &mut [u8], k: i64) {
+    let depth = bytes_per_pixel(registers).unwrap_or(0);
+    if let Some(pixel) = vector_pixels(registers, depth).nth(k as usize) {
+        let destination = read_pixel(frame, pixel.position, depth);
+        let code = field(registers[RASTER_MODE], 7, 0);
+        let result = raster_operation(code, registers[PAT_COLOR_0], registers[SRC_COLOR_FG], destination, 8 * depth);
+        write_pixel(frame, pixel.position, depth, result);
+    }
+}

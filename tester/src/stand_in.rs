@@ -1,0 +1,29 @@
+//! The model as a program, so that the tester can be tried without the engine: `stand_in replay|frame|trace`, input on standard
+//! input. `tester/wrong` builds it from copies of the model with one operand changed; the tester must catch each.
+
+#[allow(dead_code)]
+mod model;
+#[allow(dead_code)]
+mod programs;
+
+use std::io::{Read, Write};
+
+fn main() {
+    let mut input = Vec::new();
+    if let Err(error) = std::io::stdin().read_to_end(&mut input) {
+        eprintln!("stand_in: {error}");
+        std::process::exit(1);
+    }
+    let output = match std::env::args().nth(1).as_deref() {
+        Some("replay") => programs::replay(&input, &mut programs::Nobody).0.into_bytes(),
+        Some("frame") => programs::replay(&input, &mut programs::Nobody).1,
+        Some("trace") => programs::trace(&input, &mut programs::Nobody).into_bytes(),
+        _ => {
+            eprintln!("usage: stand_in replay|frame|trace");
+            std::process::exit(2);
+        }
+    };
+    if std::io::stdout().write_all(&output).is_err() {
+        std::process::exit(1);
+    }
+}
