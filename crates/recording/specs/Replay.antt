@@ -1,9 +1,11 @@
 -- What the programs ask of the engine (document 01, Shop cases: the replay program).
-use Prim.Native.Nat.{ℕ}
-use mathlib.Core.Bool.{Bool, _||_}
+use Prim.Native.Nat.{ℕ, _≤_}
+use mathlib.Core.Path.{_≡_}
+use mathlib.Core.Bool.{Bool, false, _||_}
 use mathlib.Core.List.{List}
+use borrow.Author.Tests.{ltb-false}
 use lib.ListN.{length}
-use Rattle.model.specs.Choice.{_<?_, _=?_, if_then_else_}
+use Rattle.model.specs.Choice.{_<?_, _=?_, if_then_else_, neither}
 use Rattle.model.specs.Calls.{numberOf, setup, publish, run, runFrame, restart, askRoom}
 use Rattle.model.specs.declared.State.{State}
 use Rattle.model.specs.declared.Answer.{Answer}
@@ -42,3 +44,8 @@ asked op a s ring frame =
 
 unfoldable pub askedFrame : ℕ → ℕ → State → List ℕ → List ℕ → List ℕ
 askedFrame op a s ring frame = if op =? 2 then runFrame ring s frame a else frame
+
+-- lengths that are not bad
+pub good-lengths : (r f : ℕ) → badLengths r f ≡ false → (r ≤ 4096) × (f ≤ 32768)
+good-lengths r f e =
+    let n = neither (4096 <? r) (32768 <? f) e in (ltb-false 4096 r (n .0), ltb-false 32768 f (n .1))

@@ -18,3 +18,7 @@ pub record Put (before : List ℕ) (at : ℕ) (text : List ℕ) (after : List �
 -- a place in a buffer counts the bytes before it
 pub counts : (n : ℕ) (xs : List ℕ) → n ≤ length xs → Counts n xs
 counts n xs h = (h, omega (arith, length-take n xs))
+
+-- a part from the start has the length that it is given
+pub part-length : (n : ℕ) (xs : List ℕ) → n ≤ length xs → n ≡ length (take n xs)
+part-length n xs h = omega (arith, length-take n xs)

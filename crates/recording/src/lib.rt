@@ -4,6 +4,7 @@ ghost use mathlib.Core.List.{_++_};
 ghost use Prim.Native.Nat.{_+_, _*_, _≤_, _<_, min};
 ghost use lib.ListN.{length, take};
 ghost use lib.Bits.{bitXor};
+ghost use Rattle.model.specs.Pixel.{readPixel};
 ghost use Rattle.model.specs.Calls.{numberOf, unitsOf, roomOf};
 ghost use Rattle.recording.specs.Replay.{badLengths, replay, replayFrame, asked, askedFrame};
 ghost use Rattle.io.specs.Counts.{Counts};
@@ -52,6 +53,7 @@ pub fn is_bad(ringlength: usize, framelength: usize) -> bool
 // A little-endian word.
 pub fn word_at(bytes: &[u8], at: usize) -> u32
     requires { ⌜ at + 4 ≤ length (now bytes) ⌝ }
+    ensures { λ r. ⌜ r ≡ readPixel 4 (now (bytes .entry)) at ⌝ }
 {
     pixel::get4(bytes, at)
 }
@@ -163,6 +165,79 @@ pub fn replay(ring: &[u32], frame: &mut [u8], write: usize, budget: u32) -> Answ
         return told;
     }
     engine::run(ring, told.state, frame, budget)
+}
+
+// What a recording came to: it is bad, or the replay's answer. The answer of a bad one says nothing.
+pub struct Outcome {
+    pub bad: bool,
+    pub answer: Answer,
+}
+
+// What a bad recording comes to: no call is made.
+fn bad() -> Outcome {
+    let registers = [0u32; 17];
+    let core = Core {
+        registers,
+        read: 0,
+        ringlength: 0,
+        framelength: 0,
+        completion: 0,
+        stop: 0,
+        place: Place::Idle,
+    };
+    let state = State { core, write: 0 };
+    let reply = Reply::Refused(0);
+    let answer = Answer { state, reply };
+    Outcome { bad: true, answer }
+}
+
+// Buffers for the longest ring and the longest frame memory of a recording.
+pub fn ring_buffer() -> [u32; 4096]
+    ensures { λ r. ⌜ 4096 ≡ length r ⌝ }
+{
+    [0; 4096]
+}
+
+pub fn frame_buffer() -> [u8; 32768]
+    ensures { λ r. ⌜ 32768 ≡ length r ⌝ }
+{
+    [0; 32768]
+}
+
+// Reads the rest of a recording, the ring, and replays it.
+fn replay_rest(fd: i32, ring: &mut [u32], frame: &mut [u8], write: usize, budget: u32) -> Outcome {
+    let whole = read_ring(fd, ring);
+    if whole {
+        let answer = replay(ring, frame, write, budget);
+        return Outcome { bad: false, answer };
+    }
+    bad()
+}
+
+// Reads a recording and replays it: ring and frame memory are the first parts of the two buffers.
+pub fn replay_from(fd: i32, ring: &mut [u32], frame: &mut [u8]) -> Outcome
+    requires { ⌜ (4096 ≤ length (now ring)) × (32768 ≤ length (now frame)) ⌝ }
+{
+    let mut head = [0u8; 16];
+    let n = io::read_full(fd, &mut head);
+    if n < 16 {
+        return bad();
+    }
+    let ringlength = word_at(&head, 0) as usize;
+    let framelength = word_at(&head, 4) as usize;
+    let write = word_at(&head, 8) as usize;
+    let budget = word_at(&head, 12);
+    let long = is_bad(ringlength, framelength);
+    if long {
+        return bad();
+    }
+    replay_rest(
+        fd,
+        &mut ring[..ringlength],
+        &mut frame[..framelength],
+        write,
+        budget,
+    )
 }
 
 // The call that a record of a trace asks for: 1 publish, 2 run, 3 room, else restart.

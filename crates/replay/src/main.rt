@@ -1,22 +1,16 @@
-// Replays a recording: the file that the first argument names, or standard input without one. Six lines of key=value say
-// how it ended, or the one line recording=bad.
+// Replays a recording: the file that the first argument names, or standard input without one. Six lines say how it ended,
+// or the one line recording=bad.
 use libc::STDOUT_FILENO;
 
-fn print(a: model::Answer) {
-    let mut lines = [0u8; 512];
-    let n = recording::replay_lines(a, &mut lines);
+fn print(outcome: recording::Outcome) {
+    if outcome.bad {
+        io::write_all(STDOUT_FILENO, b"recording=bad\n");
+        return;
+    }
+    let answer = outcome.answer;
+    let mut lines = recording::page();
+    let n = recording::replay_lines(answer, &mut lines);
     io::write_all(STDOUT_FILENO, &lines[..n]);
-}
-
-fn print_bad() {
-    io::write_all(STDOUT_FILENO, b"recording=bad\n");
-}
-
-// Reads the ring, and replays it on a zeroed frame memory.
-fn replay(fd: i32, h: recording::Head)
-{
-    let mut ring = [0u32; 4096];
-    let mut frame = [0u8; 32768];
 }
 
 fn main() {
@@ -24,4 +18,7 @@ fn main() {
     if fd < 0 {
         return;
     }
+    let mut ring = recording::ring_buffer();
+    let mut frame = recording::frame_buffer();
+    print(recording::replay_from(fd, &mut ring, &mut frame));
 }
