@@ -67,6 +67,16 @@ fn calls(fd: i32, s: State, ring: &mut [u32], frame: &mut [u8]) -> bool {
     true
 }
 
+// Does the calls, and prints the last line.
+fn finish(fd: i32, s: State, ring: &mut [u32], frame: &mut [u8]) {
+    let whole = calls(fd, s, ring, frame);
+    if whole {
+        print_crc(frame);
+    } else {
+        print_bad();
+    }
+}
+
 // Sets the engine up and does the calls. Ring and frame memory are the first parts of the two buffers.
 fn trace(fd: i32, ring: &mut [u32], frame: &mut [u8])
     requires { ⌜ (4096 ≤ length (now ring)) × (32768 ≤ length (now frame)) ⌝ }
@@ -91,12 +101,12 @@ fn trace(fd: i32, ring: &mut [u32], frame: &mut [u8])
     if no != 0 {
         return;
     }
-    let whole = calls(fd, made.state, &mut ring[..ringlength], &mut frame[..framelength]);
-    if whole {
-        print_crc(&frame[..framelength]);
-    } else {
-        print_bad();
-    }
+    finish(
+        fd,
+        made.state,
+        &mut ring[..ringlength],
+        &mut frame[..framelength],
+    );
 }
 
 fn main() {

@@ -1,4 +1,3 @@
-use native.Mathlib.Omega.{arith}
 use Rattle.recording.specs.Text.{part-length}
 use borrow.Author.Needs.{needs}
 use Rattle.frame.proofs.write_frame.Statement.{statement}
