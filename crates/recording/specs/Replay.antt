@@ -24,14 +24,14 @@ told ring frame p = publish (made ring frame .state) p
 unfoldable pub replay : List ℕ → List ℕ → ℕ → ℕ → Answer
 replay ring frame p budget =
     if numberOf (made ring frame .reply) =? 0 then
-      (if numberOf (told ring frame p .reply) =? 0 then run ring (told ring frame p .state) frame budget else told ring frame p)
+    (if numberOf (told ring frame p .reply) =? 0 then run ring (told ring frame p .state) frame budget else told ring frame p)
     else made ring frame
 
 -- and frame memory after it
 unfoldable pub replayFrame : List ℕ → List ℕ → ℕ → ℕ → List ℕ
 replayFrame ring frame p budget =
     if numberOf (made ring frame .reply) =? 0 then
-      (if numberOf (told ring frame p .reply) =? 0 then runFrame ring (told ring frame p .state) frame budget else frame)
+    (if numberOf (told ring frame p .reply) =? 0 then runFrame ring (told ring frame p .state) frame budget else frame)
     else frame
 
 -- the call of a trace's record: 1 publish, 2 run, 3 room, else restart

@@ -1,15 +1,13 @@
 // What the programs share: recordings read in parts, the calls that they ask for, and the lines that are written.
 ghost use mathlib.Core.Path.{_≡_};
-ghost use mathlib.Core.List.{_++_};
 ghost use Prim.Native.Nat.{_+_, _*_, _≤_, _<_, min};
-ghost use lib.ListN.{length, take};
-ghost use lib.Bits.{bitXor};
+ghost use lib.ListN.{length};
 ghost use Rattle.model.specs.Pixel.{readPixel};
 ghost use Rattle.model.specs.Calls.{numberOf, unitsOf, roomOf};
 ghost use Rattle.recording.specs.Replay.{badLengths, replay, replayFrame, asked, askedFrame};
 ghost use Rattle.io.specs.Counts.{Counts};
 ghost use Rattle.recording.specs.Text.{Put};
-ghost use Rattle.recording.specs.Crc.{crcBit, crcByte, crcOver, crc32};
+ghost use Rattle.recording.specs.Crc.{crcBit, crcByte, crc32};
 use libc::STDIN_FILENO;
 use model::Answer;
 use model::Core;

@@ -3,19 +3,15 @@ use borrow.Author.Needs.{needs}
 use Rattle.frame.proofs.write_frame.Statement.{statement}
 use Rattle.frame.proofs.write_frame.Tie as tie
 
--- src/main.rt:12:38
 slice-aggregate-write-all : tie.Need-slice-aggregate-write-all
 slice-aggregate-write-all c = part-length _ _ (c .before .if1 .taken)
 
--- src/main.rt:12:9
 write-all-requires : tie.Need-write-all-requires
 write-all-requires c κs = search needs
 
--- src/main.rt:6:1
 returns : tie.Need-returns
 returns c = search needs
 
--- src/main.rt:6:1
 returns-2 : tie.Need-returns-2
 returns-2 c = search needs
 

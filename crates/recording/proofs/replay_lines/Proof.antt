@@ -43,7 +43,7 @@ same-length : tie.Need-same-length
 same-length c = search needs
 
 returns : tie.Need-returns
-returns c = counts _ _ (c .before .before .put-end .ensures )
+returns c = counts _ _ (c .before .before .put-end .ensures)
 
 pub replay-lines-spec : {M : Type 1} → statement M
 replay-lines-spec =

@@ -6,103 +6,78 @@ use borrow.Author.Needs.{needs}
 use Rattle.trace.proofs.trace.Statement.{statement}
 use Rattle.trace.proofs.trace.Tie as tie
 
--- src/main.rt:85:31
 slice-aggregate-read-full : tie.Need-slice-aggregate-read-full
 slice-aggregate-read-full c = search needs
 
--- src/main.rt:85:9
 read-full-requires : tie.Need-read-full-requires
 read-full-requires c κs = search needs
 
--- src/main.rt:87:9
 print-bad-requires : tie.Need-print-bad-requires
 print-bad-requires c κs = search needs
 
--- src/main.rt:88:9
 returns : tie.Need-returns
 returns c = search needs
 
--- src/main.rt:90:41
 slice-aggregate-word-at : tie.Need-slice-aggregate-word-at
 slice-aggregate-word-at c = search needs
 
--- src/main.rt:90:22
 word-at-requires : tie.Need-word-at-requires
 word-at-requires c κs = search needs
 
--- src/main.rt:90:22
 cast-ringlength : tie.Need-cast-ringlength
 cast-ringlength c = search needs
 
--- src/main.rt:91:42
 slice-aggregate-word-at-2 : tie.Need-slice-aggregate-word-at-2
 slice-aggregate-word-at-2 c = search needs
 
--- src/main.rt:91:23
 word-at-requires-2 : tie.Need-word-at-requires-2
 word-at-requires-2 c κs = search needs
 
--- src/main.rt:91:23
 cast-framelength : tie.Need-cast-framelength
 cast-framelength c = search needs
 
--- src/main.rt:92:9
 is-bad-requires : tie.Need-is-bad-requires
 is-bad-requires c κs = search needs
 
--- src/main.rt:94:9
 print-bad-requires-2 : tie.Need-print-bad-requires-2
 print-bad-requires-2 c κs = search needs
 
--- src/main.rt:95:9
 returns-2 : tie.Need-returns-2
 returns-2 c = search needs
 
--- src/main.rt:97:9
 setup-requires : tie.Need-setup-requires
 setup-requires c κs = search needs
 
--- src/main.rt:98:5
 print-call-requires : tie.Need-print-call-requires
 print-call-requires c κs = search needs
 
--- src/main.rt:100:9
 number-of-requires : tie.Need-number-of-requires
 number-of-requires c κs = search needs
 
--- src/main.rt:102:9
 returns-3 : tie.Need-returns-3
 returns-3 c = search needs
 
--- src/main.rt:107:9
 slice-relend-prefix-finish : tie.Need-slice-relend-prefix-finish
 slice-relend-prefix-finish c = omega (arith, good-lengths (c .before .before .before .before .before .before .before .before .word-at .result) (c .before .before .before .before .before .before .word-at2 .result) (sym (c .before .before .before .before .before .is-bad .ensures) ∙ c .before .before .before .before .if2 .left), c .before .before .before .before .before .before .before .before .before .before .before .before .before .before .before .before .pre)
 
--- src/main.rt:107:9
 slice-aggregate-finish : tie.Need-slice-aggregate-finish
 slice-aggregate-finish c = part-length (c .before .before .before .before .before .before .before .before .before .word-at .result) (c .before .before .before .before .before .before .before .before .before .before .before .before .before .before .before .before .before .args .ring .now) (omega (arith, good-lengths (c .before .before .before .before .before .before .before .before .before .word-at .result) (c .before .before .before .before .before .before .before .word-at2 .result) (sym (c .before .before .before .before .before .before .is-bad .ensures) ∙ c .before .before .before .before .before .if2 .left), c .before .before .before .before .before .before .before .before .before .before .before .before .before .before .before .before .before .pre))
 
--- src/main.rt:108:9
 slice-relend-prefix-finish-2 : tie.Need-slice-relend-prefix-finish-2
 slice-relend-prefix-finish-2 c = omega (arith, good-lengths (c .before .before .before .before .before .before .before .before .before .word-at .result) (c .before .before .before .before .before .before .before .word-at2 .result) (sym (c .before .before .before .before .before .before .is-bad .ensures) ∙ c .before .before .before .before .before .if2 .left), c .before .before .before .before .before .before .before .before .before .before .before .before .before .before .before .before .before .pre)
 
--- src/main.rt:108:9
 slice-aggregate-finish-2 : tie.Need-slice-aggregate-finish-2
 slice-aggregate-finish-2 c = part-length (c .before .before .before .before .before .before .before .before .word-at2 .result) (c .before .before .before .before .before .before .before .before .before .before .before .before .before .before .before .before .before .before .args .frame .now) (omega (arith, good-lengths (c .before .before .before .before .before .before .before .before .before .before .word-at .result) (c .before .before .before .before .before .before .before .before .word-at2 .result) (sym (c .before .before .before .before .before .before .before .is-bad .ensures) ∙ c .before .before .before .before .before .before .if2 .left), c .before .before .before .before .before .before .before .before .before .before .before .before .before .before .before .before .before .before .pre))
 
--- src/main.rt:104:5
 finish-requires : tie.Need-finish-requires
 finish-requires c κs = search needs
 
--- src/main.rt:81:1
 same-length : tie.Need-same-length
 same-length c = search needs
 
--- src/main.rt:81:1
 same-length-2 : tie.Need-same-length-2
 same-length-2 c = search needs
 
--- src/main.rt:81:1
 returns-4 : tie.Need-returns-4
 returns-4 c = search needs
 
