@@ -4,7 +4,7 @@ ghost use Prim.Native.Nat.{_+_, _*_, _≤_, _<_, min};
 ghost use lib.ListN.{length};
 ghost use Rattle.model.specs.Pixel.{readPixel};
 ghost use Rattle.model.specs.Calls.{numberOf, unitsOf, roomOf};
-ghost use Rattle.recording.specs.Replay.{badLengths, replay, replayFrame, asked, askedFrame};
+ghost use Rattle.recording.specs.Replay.{badLengths, lastNumber, replay, replayFrame, asked, askedFrame};
 ghost use Rattle.io.specs.Counts.{Counts};
 ghost use Rattle.recording.specs.Text.{Put};
 ghost use Rattle.recording.specs.Crc.{crcBit, crcByte, crc32};
@@ -381,9 +381,11 @@ fn put_state(out: &mut [u8], at: usize, reply: Reply) -> usize
 }
 
 // The number that refused or stopped, or 0.
-fn last_number(reply: Reply, stop: u32) -> u32 {
+fn last_number(reply: Reply, stop: u32) -> u32
+    ensures { λ r. ⌜ r ≡ lastNumber reply stop ⌝ }
+{
     match reply {
-        Reply::Refused(number) => number,
+        Reply::Refused(no) => no,
         Reply::Done { .. } => 0,
         Reply::Ran { .. } => stop,
     }
