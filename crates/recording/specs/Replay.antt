@@ -1,0 +1,59 @@
+-- What the programs ask of the engine (document 01, Shop cases: the replay program).
+use Prim.Native.Nat.{ℕ, _≤_}
+use mathlib.Core.Path.{_≡_}
+use mathlib.Core.Bool.{Bool, false, _||_}
+use mathlib.Core.List.{List}
+use borrow.Author.Tests.{ltb-false}
+use lib.ListN.{length}
+use Rattle.model.specs.Choice.{_<?_, _=?_, if_then_else_, neither}
+use Rattle.model.specs.Calls.{numberOf, setup, publish, run, runFrame, restart, askRoom}
+use Rattle.model.specs.declared.State.{State}
+use Rattle.model.specs.declared.Reply.{Reply}
+use Rattle.model.specs.declared.Reply.the-variants.{Refused, Done as Accepted, Ran}
+use Rattle.model.specs.declared.Answer.{Answer}
+
+-- "a ring length above 4,096, a frame length above 32,768"
+abbrev pub badLengths : ℕ → ℕ → Bool
+badLengths ringlength framelength = 4096 <? ringlength || 32768 <? framelength
+
+-- "It does setup, one publish and one run": "the first refused call ends the replay"
+abbrev pub made : List ℕ → List ℕ → Answer
+made ring frame = setup (length ring) (length frame)
+
+abbrev pub told : List ℕ → List ℕ → ℕ → Answer
+told ring frame p = publish (made ring frame .state) p
+
+unfoldable pub replay : List ℕ → List ℕ → ℕ → ℕ → Answer
+replay ring frame p budget =
+    if numberOf (made ring frame .reply) =? 0 then
+    (if numberOf (told ring frame p .reply) =? 0 then run ring (told ring frame p .state) frame budget else told ring frame p)
+    else made ring frame
+
+-- and frame memory after it
+unfoldable pub replayFrame : List ℕ → List ℕ → ℕ → ℕ → List ℕ
+replayFrame ring frame p budget =
+    if numberOf (made ring frame .reply) =? 0 then
+    (if numberOf (told ring frame p .reply) =? 0 then runFrame ring (told ring frame p .state) frame budget else frame)
+    else frame
+
+-- the last line: the number that refused, or the stop number
+abbrev pub lastNumber : Reply → ℕ → ℕ
+lastNumber (Refused number) stop = number
+lastNumber (Accepted room) stop = 0
+lastNumber (Ran word units room) stop = stop
+
+-- the call of a trace's record: 1 publish, 2 run, 3 room, else restart
+unfoldable pub asked : ℕ → ℕ → State → List ℕ → List ℕ → Answer
+asked op a s ring frame =
+    if op =? 1 then publish s a
+    else if op =? 2 then run ring s frame a
+    else if op =? 3 then askRoom s
+    else restart s
+
+unfoldable pub askedFrame : ℕ → ℕ → State → List ℕ → List ℕ → List ℕ
+askedFrame op a s ring frame = if op =? 2 then runFrame ring s frame a else frame
+
+-- lengths that are not bad
+pub good-lengths : (r f : ℕ) → badLengths r f ≡ false → (r ≤ 4096) × (f ≤ 32768)
+good-lengths r f e =
+    let n = neither (4096 <? r) (32768 <? f) e in (ltb-false 4096 r (n .0), ltb-false 32768 f (n .1))
