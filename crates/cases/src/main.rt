@@ -1,4 +1,4 @@
-// Runs the shop cases that are not proved and prints, for each, whether it comes out as document 01 says.
+// Runs the shop cases that document 01 does not mark and prints, for each, whether it comes out as it says.
 use libc::STDOUT_FILENO;
 
 // A ring of 64 words with one BLT at 0, all its words enabled: a solid fill of 5Ah by F0h, 8 bpp, 4 pixels wide, stride 16.

@@ -369,6 +369,7 @@ fn put_word(out: &mut [u8], at: usize, word: RunWord) -> usize
 
 // ---- the replay's lines
 
+// The name of the state that a replay ends in. Its last call is a run, so a call that is only accepted never ends it.
 fn put_state(out: &mut [u8], at: usize, reply: Reply) -> usize
     requires { ⌜ at ≤ length (now out) ⌝ }
     ensures { λ r. ⌜ r ≤ length (now (out .exit)) ⌝ }
