@@ -7,10 +7,10 @@ use mathlib.Core.Logic.{⊎-elim}
 use mathlib.Core.List.{List, [], _∷_}
 use native.Mathlib.Omega.{arith}
 use native.Mathlib.Nat.{add-zero, mod-lt, mod-self}
-use lib.ListN.{length, getD}
+use lib.ListN.{length}
 use borrow.Author.Tests.{leb-true, eqb-true, eqb-false, not-true}
 use Rattle.model.specs.Choice.{_≤?_, _=?_, if_then_else_, both, either, not-both, or-left, or-right}
-use Rattle.model.specs.Ring.{distance, waiting, wordAt, distance-lt}
+use Rattle.model.specs.Ring.{Agree, distance, waiting, wordAt, distance-lt}
 use Rattle.model.specs.Command.{kindOf, draws, wordRegisters, commandLength, returns, headerRefusal, whole, loadWords, loaded, readAfter}
 use Rattle.model.specs.Unit.{Machine, Done, headerAt, loadedAt, commandRefusal, ready, stopped, loadedCore, drawnCore, unit, drawing, possible, units}
 use Rattle.model.specs.Steps.{unit-loads, unit-refuses, unit-draws, possible-later}
@@ -21,10 +21,6 @@ use Rattle.model.specs.declared.Place.the-variants.{Idle, Drawing}
 use Rattle.laws.specs.Circle.{distance-sum, distance-next}
 use Rattle.laws.specs.Units.{units-zero, units-stop, units-step}
 use Rattle.laws.specs.Fit.{accepted-header}
-
--- two rings of n words have the same words from o up to w
-abbrev pub Agree : List ℕ → List ℕ → ℕ → ℕ → ℕ → Type 0
-Agree ring all n o w = (x : ℕ) → x < n → distance n o x < distance n o w → getD ring x 0 ≡ getD all x 0
 
 -- where an engine stands on the run of words from o to the final position f, with the write pointer at w
 pub record OnRun (n o f w : ℕ) (c : Core) : Type 0 where

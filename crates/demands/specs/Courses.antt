@@ -8,11 +8,10 @@ use lib.ListN.{length}
 use Rattle.model.specs.Choice.{_<?_, _≤?_, _=?_, if_then_else_}
 use Rattle.model.specs.Ring.{waiting, distance, publishRefusal}
 use Rattle.model.specs.Unit.{Machine, Done, unit, possible, units}
-use Rattle.model.specs.Calls.{unfit, publish, restart, askRoom, run, runFrame, runRefusal, runUnits, ranAnswer}
+use Rattle.model.specs.Calls.{unfit, publish, restart, askRoom, run, runFrame, runRefusal, runUnits, ranAnswer, machineOf}
 use Rattle.model.specs.Course.{Call, publishing, running, asking, restarting, Lent, Standing, oneUnit, courseUnits, courseCall, course}
 use Rattle.laws.specs.Units.{units-zero, units-stop, units-step, units-shift}
-use Rattle.laws.specs.Sound.{machineOf}
-use Rattle.demands.specs.Perform.{perform, performs}
+use Rattle.model.specs.Perform.{perform, performs}
 
 -- a standing from the end of some units
 abbrev pub standing : ℕ → Done → Standing

@@ -19,7 +19,7 @@ use Rattle.model.specs.Command.{kindOf, draws, badHeader, badReturn, headerRefu
 use Rattle.model.specs.Judging.{judge, row23, row24, row25, row26, row27, row28}
 use Rattle.model.specs.Unit.{Machine, headerAt, loadedAt, commandRefusal, ready, stopped, pixelCount, unit, drawing, possible, units}
 use Rattle.model.specs.Steps.{unit-refuses}
-use Rattle.model.specs.Calls.{badRing, badFrame, badStop, badPlace, unfit, setup, publish, restart, askRoom, runWord, runRefusal, runUnits, ranAnswer, run, runFrame, freshState, numberOf, roomOf, roomAfter, stateAfter, restarted, withWrite}
+use Rattle.model.specs.Calls.{badRing, badFrame, badStop, badPlace, unfit, setup, publish, restart, askRoom, runWord, runRefusal, runUnits, ranAnswer, run, runFrame, freshState, numberOf, roomOf, roomAfter, stateAfter, restarted, withWrite, machineOf}
 use Rattle.model.specs.declared.Core.{Core}
 use Rattle.model.specs.declared.State.{State}
 use Rattle.model.specs.declared.Answer.{Answer}
@@ -32,7 +32,7 @@ use Rattle.model.specs.declared.RunWord.the-variants.{Stopped, Waiting, Spent}
 use Rattle.model.specs.declared.Reply.the-variants.{Refused, Done as Accepted, Ran}
 use Rattle.laws.specs.Some.{some-found, some-at}
 use Rattle.laws.specs.Fit.{Fit, FitPlace, fit-parts, parts-fit, place-parts}
-use Rattle.laws.specs.Sound.{machineOf, sound-run, sound-units}
+use Rattle.laws.specs.Sound.{sound-run, sound-units}
 
 -- ---- the statement: the refusal table
 

@@ -8,14 +8,13 @@ use native.Mathlib.Nat.{add-zero}
 use borrow.Author.Tests.{eqb-true, eqb-false}
 use Rattle.model.specs.Choice.{_≤?_, _=?_, if_then_else_}
 use Rattle.model.specs.Completion.{retired}
-use Rattle.model.specs.Unit.{Machine, Done, commandRefusal, pixelCount, drawPixel, drawnCore, unit, possible, units}
+use Rattle.model.specs.Unit.{Machine, Done, commandRefusal, pixelCount, drawPixel, drawnCore, unit, possible, units, done, times}
 use Rattle.model.specs.Steps.{unit-loads, unit-refuses, unit-draws}
-use Rattle.model.specs.Calls.{runRefusal, runUnits, run, runFrame, ranAnswer, unitsOf, stateAfter}
+use Rattle.model.specs.Calls.{runRefusal, runUnits, run, runFrame, ranAnswer, unitsOf, stateAfter, machineOf}
 use Rattle.model.specs.declared.State.{State}
 use Rattle.model.specs.declared.Kind.{Kind}
 use Rattle.model.specs.declared.Place.the-variants.{Idle, Drawing}
-use Rattle.laws.specs.Units.{done, times, units-zero, units-stop, units-step, units-add, units-shift}
-use Rattle.laws.specs.Sound.{machineOf}
+use Rattle.laws.specs.Units.{units-zero, units-stop, units-step, units-add, units-shift}
 
 -- ---- the statement
 

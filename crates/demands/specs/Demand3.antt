@@ -10,31 +10,22 @@ use lib.ListN.{length, replicate}
 use lib.Dec.{leb}
 use borrow.Author.Tests.{leb-true, leb-false, ltb-true, eqb-true, eqb-false, eq-eqb, not-true}
 use Rattle.model.specs.Choice.{_<?_, _≤?_, _=?_, if_then_else_, both}
-use Rattle.model.specs.Ring.{distance, waiting, publishRefusal, empty}
-use Rattle.model.specs.Unit.{Machine, Done, possible, units}
-use Rattle.model.specs.Calls.{unfit, publish, restart, runWord, numberOf, unitsOf, withWrite}
+use Rattle.model.specs.Ring.{Agree, distance, waiting, publishRefusal, empty}
+use Rattle.model.specs.Unit.{Machine, Done, possible, units, done}
+use Rattle.model.specs.Calls.{unfit, publish, restart, runWord, numberOf, unitsOf, withWrite, machineOf}
 use Rattle.model.specs.Course.{Call, publishing, running, asking, restarting, Lent, Standing, courseUnits, courseCall, course}
 use Rattle.model.specs.declared.Core.{Core}
 use Rattle.model.specs.declared.State.{State}
 use Rattle.model.specs.declared.Answer.{Answer}
 use Rattle.model.specs.declared.RunWord.the-variants.{Stopped, Waiting, Spent}
-use Rattle.laws.specs.Units.{done, units-zero, units-stop, units-add}
+use Rattle.laws.specs.Units.{units-zero, units-stop, units-add}
 use Rattle.laws.specs.Fit.{Fit, fit-parts, parts-fit, possible-running}
-use Rattle.laws.specs.Sound.{Sound, machineOf, sound-units}
-use Rattle.demands.specs.Perform.{perform, performs, lent, start}
+use Rattle.laws.specs.Sound.{Sound, sound-units}
+use Rattle.model.specs.Perform.{perform, performs, lent, total, start, Accepted, Fixed, Rests}
 use Rattle.demands.specs.Courses.{standing, course-units, perform-course, performs-course}
-use Rattle.demands.specs.Arrival.{Agree, OnRun, units-taken}
+use Rattle.demands.specs.Arrival.{OnRun, units-taken}
 
 -- ---- the statement
-
-abbrev pub Accepted : Answer → Type 0
-Accepted a = numberOf (a .reply) ≡ 0
-
--- "Fix an accepted state, a ring, frame memory": row 3 does not refuse it, "ring and frame memory have its lengths"
-pub record Fixed (ring : List ℕ) (s : State) (frame : List ℕ) : Type 0 where
-  pub state-fit : unfit s ≡ false
-  pub ring-is : length ring ≡ s .core .ringlength
-  pub frame-is : length frame ≡ s .core .framelength
 
 -- "Along that run means: counted from the starting read, modulo ring size, each accepted position is at least the write
 -- pointer then and at most the final one"; "with no restart accepted"
@@ -51,10 +42,6 @@ abbrev pub Along : List ℕ → State → ℕ → List Call → Standing → Typ
 Along ring s final [] y = Unit {0}
 Along ring s final (x ∷ xs) y =
     Allowed s final x y × Along ring s final xs (perform (record { ring = ring; call = x }) y)
-
--- "the engine waits or has stopped": a run would answer so
-abbrev pub Rests : List ℕ → Standing → Type 0
-Rests ring y = (runWord ring (y .state) ≡ Waiting) ⊎ (runWord ring (y .state) ≡ Stopped)
 
 -- publishing the final position at once, and then runs with these budgets
 abbrev pub atOnce : List ℕ → State → List ℕ → ℕ → List ℕ → Standing
@@ -202,10 +189,6 @@ run-units ring y budget h =
     perform-course ring y (running budget) ∙ sound-course ring y budget h ∙ course-units ring budget y
 
 -- several runs are as many units as their budgets allow together
-abbrev total : List ℕ → ℕ
-total [] = 0
-total (b ∷ bs) = b + total bs
-
 runs-total : (ring : List ℕ) (budgets : List ℕ) (y : Standing) → Sound ring (y .state .write) (machineOf (y .state) (y .frame))
     → performs (lent ring (map running budgets)) y
     ≡ standing (y .state .write) (units ring (y .state .write) (total budgets) (y .sum) (machineOf (y .state) (y .frame)))

@@ -7,7 +7,7 @@ use lib.ListN.{getD}
 use Rattle.model.specs.Calls.{unitsOf}
 use Rattle.model.specs.Course.{Call, Standing, course}
 use Rattle.model.specs.declared.State.{State}
-use Rattle.demands.specs.Perform.{answerOf, frameOf, lent, start}
+use Rattle.model.specs.Perform.{answerOf, frameOf, lent, start}
 use Rattle.demands.specs.Courses.{perform-course}
 use Rattle.drive.specs.Calls.{callOf, callsOf}
 

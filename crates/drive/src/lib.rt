@@ -4,7 +4,7 @@ ghost use Prim.Native.Nat.{_≤_};
 ghost use lib.ListN.{length};
 ghost use Rattle.model.specs.Calls.{unitsOf};
 ghost use Rattle.model.specs.Course.{course};
-ghost use Rattle.demands.specs.Perform.{answerOf, frameOf, lent, start};
+ghost use Rattle.model.specs.Perform.{answerOf, frameOf, lent, start};
 ghost use Rattle.drive.specs.Calls.{callOf, callsOf};
 use model::Answer;
 use model::Reply;

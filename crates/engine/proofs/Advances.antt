@@ -8,15 +8,15 @@ use native.Mathlib.Nat.{add-zero}
 use borrow.Author.Tests.{eqb-true, eqb-false}
 use lib.ListN.{length}
 use Rattle.model.specs.Choice.{_=?_}
-use Rattle.model.specs.Unit.{Machine, commandRefusal, pixelCount, drawnCore, unit, possible, units}
+use Rattle.model.specs.Unit.{Machine, commandRefusal, pixelCount, drawnCore, unit, possible, units, done}
 use Rattle.model.specs.Steps.{unit-loads, unit-refuses}
-use Rattle.model.specs.Calls.{badPlace}
+use Rattle.model.specs.Calls.{badPlace, machineOf}
 use Rattle.model.specs.declared.State.{State}
 use Rattle.model.specs.declared.Kind.{Kind}
 use Rattle.model.specs.declared.Place.the-variants.{Idle, Drawing}
-use Rattle.laws.specs.Units.{done, units-zero, units-stop, units-step}
+use Rattle.laws.specs.Units.{units-zero, units-stop, units-step}
 use Rattle.laws.specs.Fit.{FitPlace, place-parts}
-use Rattle.laws.specs.Sound.{Sound, machineOf, sound-unit, sound-units}
+use Rattle.laws.specs.Sound.{Sound, sound-unit, sound-units}
 use Rattle.laws.specs.Order.{pixels}
 use Rattle.laws.specs.Spans.{drawnMachine, units-span}
 use Rattle.engine.specs.Turns.{FitCore, loadUnit, Advanced, Going, Finished}

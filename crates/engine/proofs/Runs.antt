@@ -4,11 +4,11 @@ use mathlib.Core.Path.{_≡_, refl, sym, ap, _∙_}
 use mathlib.Core.List.{List}
 use lib.ListN.{length}
 use borrow.Author.Tests.{eq-eqb, ne-eqb}
-use Rattle.model.specs.Calls.{refused, roomAfter, runWord, runRefusal, runUnits, stateAfter, ranAnswer, run, runFrame}
+use Rattle.model.specs.Calls.{refused, roomAfter, runWord, runRefusal, runUnits, stateAfter, ranAnswer, run, runFrame, machineOf}
+use Rattle.model.specs.Unit.{done}
 use Rattle.model.specs.declared.State.{State}
 use Rattle.model.specs.declared.Reply.the-variants.{Ran}
-use Rattle.laws.specs.Units.{done}
-use Rattle.laws.specs.Sound.{Sound, machineOf, sound-run}
+use Rattle.laws.specs.Sound.{Sound, sound-run}
 use Rattle.engine.specs.Turns.{runNumber, Finished}
 
 module _ (ring : List ℕ) (s : State) (frame : List ℕ) (budget : ℕ) where

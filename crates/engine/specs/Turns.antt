@@ -7,11 +7,11 @@ use lib.ListN.{length}
 use Rattle.model.specs.Choice.{_=?_, if_then_else_}
 use Rattle.model.specs.Limits.{ringLeast, ringMost}
 use Rattle.model.specs.Unit.{commandRefusal, stopped, loadedCore, units}
-use Rattle.model.specs.Calls.{badRing, badFrame, unfit}
+use Rattle.model.specs.Calls.{badRing, badFrame, unfit, machineOf}
 use Rattle.model.specs.declared.Core.{Core}
 use Rattle.model.specs.declared.State.{State}
 use Rattle.model.specs.declared.Place.{Place}
-use Rattle.laws.specs.Sound.{Sound, machineOf}
+use Rattle.laws.specs.Sound.{Sound}
 
 -- 1 or 2 for a length out of range, or 0
 unfoldable pub lengthRefusal : ℕ → ℕ → ℕ

@@ -10,7 +10,7 @@ use Rattle.model.specs.BltPixel.{bltOf, skipped, drawBlt}
 use Rattle.model.specs.VectorPixel.{drawVector}
 use Rattle.model.specs.Unit.{Machine, commandRefusal, stopped, loadedCore, drawnCore, drawPixel, unit, possible, units}
 use Rattle.model.specs.Steps.{unit-loads, unit-refuses, unit-draws}
-use Rattle.model.specs.Calls.{unfit, runRefusal}
+use Rattle.model.specs.Calls.{unfit, runRefusal, machineOf}
 use Rattle.model.specs.declared.State.{State}
 use Rattle.model.specs.declared.Kind.{Kind}
 use Rattle.model.specs.declared.Kind.the-variants.{Blt as BltKind, Vector as VectorKind}
@@ -24,9 +24,6 @@ pub record Sound (ring : List ℕ) (w : ℕ) (m : Machine) : Type 0 where
   pub fit : Fit (m .core) w
   pub ring-is : length ring ≡ m .core .ringlength
   pub frame-is : length (m .frame) ≡ m .core .framelength
-
-abbrev pub machineOf : State → List ℕ → Machine
-machineOf s frame = record { core = s .core; frame = frame }
 
 -- ---- a run is accepted exactly where the machine is sound
 

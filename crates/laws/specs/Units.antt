@@ -5,10 +5,7 @@ use mathlib.Core.Bool.{Bool, true, false}
 use mathlib.Core.List.{List}
 use native.Mathlib.Omega.{arith}
 use native.Mathlib.Nat.{zero-add, suc-add}
-use Rattle.model.specs.Unit.{Machine, Done, unit, possible, units}
-
-abbrev pub done : Machine → ℕ → Done
-done m used = record { machine = m; used = used }
+use Rattle.model.specs.Unit.{Machine, done, unit, possible, units}
 
 module _ (ring : List ℕ) (w : ℕ) where
   pub units-zero : (used : ℕ) (m : Machine) → units ring w 0 used m ≡ done m used
@@ -53,8 +50,3 @@ module _ (ring : List ℕ) (w : ℕ) where
           let e : more + used + 1 ≡ more + (used + 1) = omega arith in
           rw (units-step n (more + used) m h, units-step n used m h, e) i
       go false h i = rw (units-stop (suc n) (more + used) m h, units-stop (suc n) used m h)
-
--- the n-fold unit, whether or not it can be done
-abbrev pub times : List ℕ → ℕ → Machine → Machine
-times ring zero m = m
-times ring (suc n) m = times ring n (unit ring m)

@@ -9,7 +9,7 @@ use Rattle.model.specs.Limits.{ringLeast, ringMost, frameMost}
 use Rattle.model.specs.Registers.{registerCount}
 use Rattle.model.specs.Ring.{room, publishRefusal}
 use Rattle.model.specs.Judging.{judge}
-use Rattle.model.specs.Unit.{Done, pixelCount, possible, units}
+use Rattle.model.specs.Unit.{Machine, Done, pixelCount, possible, units}
 use Rattle.model.specs.declared.Core.{Core}
 use Rattle.model.specs.declared.State.{State}
 use Rattle.model.specs.declared.Place.{Place}
@@ -151,9 +151,13 @@ runRefusal ring s frame =
     else if not (length ring =? s .core .ringlength) || not (length frame =? s .core .framelength) then 4
     else 0
 
+-- the state without the write pointer, and frame memory
+abbrev pub machineOf : State → List ℕ → Machine
+machineOf s frame = record { core = s .core; frame = frame }
+
 -- the units of an accepted run, and the state after them
 unfoldable pub runUnits : List ℕ → State → List ℕ → ℕ → Done
-runUnits ring s frame budget = units ring (s .write) budget 0 (record { core = s .core; frame = frame })
+runUnits ring s frame budget = units ring (s .write) budget 0 (machineOf s frame)
 
 abbrev pub stateAfter : State → Done → State
 stateAfter s done = record { core = done .machine .core; write = s .write }

@@ -8,7 +8,7 @@ use lib.ListN.{length}
 use Rattle.model.specs.Choice.{_<?_, _≤?_, _=?_, if_then_else_}
 use Rattle.model.specs.Ring.{waiting, distance}
 use Rattle.model.specs.Unit.{unit, possible}
-use Rattle.model.specs.Calls.{unfit, restarted, withWrite}
+use Rattle.model.specs.Calls.{unfit, restarted, withWrite, machineOf}
 use Rattle.model.specs.declared.State.{State}
 
 -- "The calls are publish, run, asking for room and restart"
@@ -32,7 +32,7 @@ pub record Standing : Type 0 where
 -- "A run does units as above, each adding 1": one more unit
 abbrev pub oneUnit : List ℕ → Standing → Standing
 oneUnit ring y =
-    let next = unit ring (record { core = y .state .core; frame = y .frame }) in
+    let next = unit ring (machineOf (y .state) (y .frame)) in
     record {
       state = record { core = next .core; write = y .state .write };
       frame = next .frame;

@@ -16,5 +16,6 @@ pub mod Judging
 pub mod Unit
 pub mod Calls
 pub mod Course
+pub mod Perform
 pub mod Steps
 pub mod Cases

@@ -1,4 +1,5 @@
--- The ranges that document 01 names: "a lent run of 1 to 16,777,216 bytes", "a lent run of 64 to 16,384 words of 32 bits".
+-- The ranges that document 01 names: "a lent run of 1 to 16,777,216 bytes", "a lent run of 64 to 16,384 words of 32 bits", "a
+-- budget of 0 to 4,294,967,295 units"; and the largest width, height and vector length, fields of 12 bits each (000).
 use Prim.Native.Nat.{ℕ}
 
 abbrev pub ringLeast : ℕ
@@ -9,3 +10,9 @@ ringMost = 16_384
 
 abbrev pub frameMost : ℕ
 frameMost = 16_777_216
+
+abbrev pub budgetMost : ℕ
+budgetMost = 4_294_967_295
+
+abbrev pub sideMost : ℕ
+sideMost = 4_095

@@ -30,6 +30,11 @@ publishRefusal size read write p =
 unfoldable pub wordAt : List ℕ → ℕ → ℕ → ℕ
 wordAt ring at i = getD ring ((at + i) % length ring) 0
 
+-- two rings have the same words from position `from` up to position `to`, which is not among them
+abbrev pub Agree : List ℕ → List ℕ → ℕ → ℕ → ℕ → Type 0
+Agree ring other size from to =
+    (x : ℕ) → x < size → distance size from x < distance size from to → getD ring x 0 ≡ getD other x 0
+
 -- ---- laws
 
 -- the distance is the one number below the ring size that leads from one position to the other

@@ -110,6 +110,11 @@ unitAt ring (Drawing kind k) m =
 unfoldable pub unit : List ℕ → Machine → Machine
 unit ring m = unitAt ring (m .core .place) m
 
+-- n of them, whether or not they can be done
+abbrev pub times : List ℕ → ℕ → Machine → Machine
+times ring zero m = m
+times ring (suc n) m = times ring n (unit ring m)
+
 -- whether a further unit can be done, with the write pointer at `write`
 abbrev pub drawing : Place → Bool
 drawing Idle = false
@@ -124,8 +129,11 @@ pub record Done : Type 0 where
   pub machine : Machine
   pub used : ℕ
 
+abbrev pub done : Machine → ℕ → Done
+done m used = record { machine = m; used = used }
+
 unfoldable pub units : List ℕ → ℕ → ℕ → ℕ → Machine → Done
-units ring write zero used m = record { machine = m; used = used }
+units ring write zero used m = done m used
 units ring write (suc n) used m =
     let further = units ring write n (used + 1) (unit ring m) in
-    if possible ring (m .core) write then further else record { machine = m; used = used }
+    if possible ring (m .core) write then further else done m used

@@ -3,9 +3,9 @@ use Prim.Native.Nat.{_-_}
 use mathlib.Core.Path.{sym, _∙_}
 use native.Mathlib.Omega.{arith}
 use denote.Ref.{now}
-use Rattle.laws.specs.Sound.{machineOf}
 use Rattle.engine.specs.Turns.{Going}
 use Rattle.engine.proofs.do_units.Statement.{statement}
+use Rattle.model.specs.Calls.{machineOf}
 use Rattle.engine.proofs.do_units.Tie as tie
 
 abbrev Inv-loop : tie.InvT-loop
