@@ -10,7 +10,7 @@ use native.Mathlib.Nat.{add-zero, mod-lt, mod-self}
 use lib.ListN.{length}
 use borrow.Author.Tests.{leb-true, eqb-true, eqb-false, not-true}
 use Rattle.model.specs.Choice.{_≤?_, _=?_, if_then_else_, both, either, not-both, or-left, or-right}
-use Rattle.model.specs.Ring.{Agree, distance, waiting, wordAt, distance-lt}
+use Rattle.model.specs.Ring.{Agree, distance, waiting, wordAt, distance-lt, distance-leads, empty}
 use Rattle.model.specs.Command.{kindOf, draws, wordRegisters, commandLength, returns, headerRefusal, whole, loadWords, loaded, readAfter}
 use Rattle.model.specs.Unit.{Machine, Done, headerAt, loadedAt, commandRefusal, ready, stopped, loadedCore, drawnCore, unit, drawing, possible, units}
 use Rattle.model.specs.Steps.{unit-loads, unit-refuses, unit-draws, possible-later}
@@ -32,6 +32,42 @@ pub record OnRun (n o f w : ℕ) (c : Core) : Type 0 where
   pub past : distance n o (c .read) ≤ distance n o w
   pub ahead : distance n o w ≤ distance n o f
 
+-- ---- the same run seen from the read pointer
+
+module _ (n o f w : ℕ) (c : Core) (on : OnRun n o f w c) where
+  -- the run that is left begins where the engine reads
+  pub on-here : OnRun n (c .read) f w c
+  unfolding waiting
+  on-here =
+      let a = distance-sum n o (c .read) w (on .origin-in) (on .read-in) (on .write-in) (on .past) in
+      let b = distance-sum n o (c .read) f (on .origin-in) (on .read-in) (on .final-in) (omega (arith, on .past, on .ahead)) in
+      record {
+        size-is = on .size-is;
+        origin-in = on .read-in;
+        final-in = on .final-in;
+        read-in = on .read-in;
+        write-in = on .write-in;
+        past = omega (arith, empty n (c .read));
+        ahead = omega (arith, on .ahead);
+      }
+
+  -- and an engine further on in it is further on in the whole run
+  pub on-back : (d : Core) → OnRun n (c .read) f w d → OnRun n o f w d
+  on-back d further =
+      let a = distance-sum n o (c .read) w (on .origin-in) (on .read-in) (on .write-in) (on .past) in
+      let l = distance-lt n o w (on .origin-in) in
+      let t = distance-next n o (c .read) (distance n (c .read) (d .read)) (on .origin-in) (on .read-in) (omega (arith, further .past)) in
+      let e = rw (distance-leads n (c .read) (d .read) (on .read-in) (further .read-in)) at t in
+      record {
+        size-is = further .size-is;
+        origin-in = on .origin-in;
+        final-in = on .final-in;
+        read-in = further .read-in;
+        write-in = on .write-in;
+        past = omega (arith, further .past);
+        ahead = on .ahead;
+      }
+
 -- ---- what a ready command waits for
 
 -- its own words, or with W those to the ring's end: as many as the read pointer passes
@@ -50,16 +86,16 @@ advance n read w header h e = go (returns header) refl (both (commandLength (kin
         let s : read + (n - read) ≡ n = omega arith in
         (n - read, leb-true _ _ t, rw s (sym (mod-self n)))
 
-whole-words : (n read w header : ℕ) → whole n read w header ≡ true → commandLength (kindOf header) ≤ waiting n read w
+pub whole-words : (n read w header : ℕ) → whole n read w header ≡ true → commandLength (kindOf header) ≤ waiting n read w
 unfolding whole
 whole-words n read w header e = leb-true _ _ (both (commandLength (kindOf header) ≤? waiting n read w) _ e .0)
 
 module _ (ring : List ℕ) (c : Core) (w : ℕ) (now : ready ring c w ≡ true) where
-  ready-header : 0 < waiting (c .ringlength) (c .read) w
+  pub ready-header : 0 < waiting (c .ringlength) (c .read) w
   unfolding ready
   ready-header = leb-true _ _ (both (1 ≤? waiting (c .ringlength) (c .read) w) _ now .0)
 
-  ready-whole : headerRefusal (c .ringlength) (c .read) (headerAt ring c) ≡ 0
+  pub ready-whole : headerRefusal (c .ringlength) (c .read) (headerAt ring c) ≡ 0
       → whole (c .ringlength) (c .read) w (headerAt ring c) ≡ true
   unfolding ready
   ready-whole e =
@@ -68,7 +104,7 @@ module _ (ring : List ℕ) (c : Core) (w : ℕ) (now : ready ring c w ≡ true) 
       (both (1 ≤? waiting (c .ringlength) (c .read) w) _ now .1))
 
 -- an idle engine that can do a unit has a ready command
-idle-ready : (ring : List ℕ) (c : Core) (w : ℕ) → c .place ≡ Idle → possible ring c w ≡ true → ready ring c w ≡ true
+pub idle-ready : (ring : List ℕ) (c : Core) (w : ℕ) → c .place ≡ Idle → possible ring c w ≡ true → ready ring c w ≡ true
 unfolding possible
 idle-ready ring c w p e =
     ⊎-elim (λ q. absurd (not-both _ q (ap drawing p))) (λ q. q) (either (drawing (c .place)) _ (both (c .stop =? 0) _ e .1))
@@ -119,7 +155,7 @@ module _ (n o f w : ℕ) (ring : List ℕ) where
     ahead = on .ahead;
   }
 
-  unit-on : (m : Machine) → OnRun n o f w (m .core) → possible ring (m .core) w ≡ true → OnRun n o f w (unit ring m .core)
+  pub unit-on : (m : Machine) → OnRun n o f w (m .core) → possible ring (m .core) w ≡ true → OnRun n o f w (unit ring m .core)
   unit-on m on e = go (m .core .place) refl
     where
       c : Core

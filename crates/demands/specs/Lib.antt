@@ -1,5 +1,7 @@
+pub mod Waits
+pub mod Table
+pub mod Demand1
+pub mod Demand2
 pub mod Courses
 pub mod Arrival
 pub mod Demand3
-pub mod Demand2
-pub mod Demand1
