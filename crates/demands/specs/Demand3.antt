@@ -1,31 +1,30 @@
 -- Demand 3. Every way of arriving late: however the words are published in portions and whatever the budgets, the outcome is
 -- that of publishing all at once. One theorem about every list of calls.
-use Prim.Native.Nat.{ℕ, zero, suc, _+_, _-_, _≤_, _<_}
-use mathlib.Core.Path.{_≡_, refl, sym, ap, _∙_}
+use Prim.Native.Nat.{ℕ, _+_, _-_, _≤_, _<_}
+use mathlib.Core.Path.{_≡_, refl, sym, ap, subst, _∙_}
 use mathlib.Core.Bool.{Bool, true, false, not, _&&_}
-use mathlib.Core.Logic.{_⊎_, inl, inr, ⊎-elim}
 use mathlib.Core.List.{List, [], _∷_, map}
 use native.Mathlib.Omega.{arith}
-use lib.ListN.{length, replicate}
+use lib.ListN.{length}
 use lib.Dec.{leb}
-use borrow.Author.Tests.{leb-true, leb-false, ltb-true, eqb-true, eqb-false, eq-eqb, not-true}
+use borrow.Author.Tests.{leb-true, leb-false, eqb-true}
 use Rattle.model.specs.Choice.{_<?_, _≤?_, _=?_, if_then_else_, both}
-use Rattle.model.specs.Ring.{Agree, distance, waiting, publishRefusal, empty}
-use Rattle.model.specs.Unit.{Machine, Done, possible, units, done}
-use Rattle.model.specs.Calls.{unfit, publish, restart, runWord, numberOf, unitsOf, withWrite, machineOf}
+use Rattle.model.specs.Ring.{Agree, distance, waiting, empty}
+use Rattle.model.specs.Unit.{Machine, Done, done, possible, units}
+use Rattle.model.specs.Calls.{unfit, publish, run, restart, withWrite, machineOf}
 use Rattle.model.specs.Course.{Call, publishing, running, asking, restarting, Lent, Standing, courseUnits, courseCall, course}
+use Rattle.model.specs.Perform.{perform, performs, lent, runs, total, start, Accepted, Fixed, Rests}
 use Rattle.model.specs.declared.Core.{Core}
 use Rattle.model.specs.declared.State.{State}
-use Rattle.model.specs.declared.Answer.{Answer}
-use Rattle.model.specs.declared.RunWord.the-variants.{Stopped, Waiting, Spent}
 use Rattle.laws.specs.Units.{units-zero, units-stop, units-add}
-use Rattle.laws.specs.Fit.{Fit, fit-parts, parts-fit, possible-running}
+use Rattle.laws.specs.Fit.{Fit, fit-parts}
 use Rattle.laws.specs.Sound.{Sound, sound-units}
-use Rattle.model.specs.Perform.{perform, performs, lent, total, start, Accepted, Fixed, Rests}
 use Rattle.demands.specs.Courses.{standing, course-units, perform-course, performs-course}
-use Rattle.demands.specs.Arrival.{OnRun, units-taken}
+use Rattle.demands.specs.Runs.{Published, published, course-publishes, course-runs, rests-impossible, impossible-rests, runs-total}
+use Rattle.demands.specs.Arrival.{OnRun, on-here, on-back, units-taken}
+use Rattle.demands.specs.Progress.{enoughRuns, units-end, units-enough}
 
--- ---- the statement
+-- ---- the statement: the calls
 
 -- "Along that run means: counted from the starting read, modulo ring size, each accepted position is at least the write
 -- pointer then and at most the final one"; "with no restart accepted"
@@ -37,20 +36,32 @@ Allowed s final (running budget) y = Unit {0}
 Allowed s final asking y = Unit {0}
 Allowed s final restarting y = Accepted (restart (y .state)) → ⊥
 
--- of every call in the list, each getting what the last one left
+-- of every call in the list: "Each gets what the last one left; nobody else writes in between"
 abbrev pub Along : List ℕ → State → ℕ → List Call → Standing → Type 0
 Along ring s final [] y = Unit {0}
 Along ring s final (x ∷ xs) y =
     Allowed s final x y × Along ring s final xs (perform (record { ring = ring; call = x }) y)
 
+-- The stronger form: the ring is lent anew at each call, and at an accepted run only the words that wait then, from the read
+-- pointer up to the write pointer, need be those of the run of words. Words that were passed may be written over, and words
+-- that are not published yet may change, as hosts do.
+abbrev pub Words : List ℕ → State → List ℕ → Call → Standing → Type 0
+Words all s ring (publishing p) y = Unit {0}
+Words all s ring (running budget) y =
+    Accepted (run ring (y .state) (y .frame) budget) → Agree ring all (s .core .ringlength) (y .state .core .read) (y .state .write)
+Words all s ring asking y = Unit {0}
+Words all s ring restarting y = Unit {0}
+
+abbrev pub AlongFed : List ℕ → State → ℕ → List Lent → Standing → Type 0
+AlongFed all s final [] y = Unit {0}
+AlongFed all s final (x ∷ xs) y =
+    Allowed s final (x .call) y × Words all s (x .ring) (x .call) y × AlongFed all s final xs (perform x y)
+
+-- ---- the statement: what they come to
+
 -- publishing the final position at once, and then runs with these budgets
 abbrev pub atOnce : List ℕ → State → List ℕ → ℕ → List ℕ → Standing
 atOnce ring s frame final budgets = performs (lent ring (publishing final ∷ map running budgets)) (start s frame)
-
--- budgets that a run takes
-abbrev pub Budgets : List ℕ → Type 0
-Budgets [] = Unit {0}
-Budgets (b ∷ bs) = (b ≤ 4_294_967_295) × Budgets bs
 
 -- What is claimed of the end y of a list of calls.
 pub record Arrived (ring : List ℕ) (s : State) (frame : List ℕ) (final : ℕ) (y : Standing) : Type 0 where
@@ -62,15 +73,21 @@ pub record Arrived (ring : List ℕ) (s : State) (frame : List ℕ) (final : ℕ
       ≡ done (machineOf (y .state) (y .frame)) (y .sum)
   -- (c) "Once the final pointer is in and the engine waits or has stopped, the whole state, frame memory and sum equal those
   -- of publishing all at once and then running until it waits or has stopped, in as many runs as that takes": for every list
-  -- of budgets that gets there, and there is one. Ruled out: an engine that never draws the banner whose words came in two
-  -- portions; one that answers waiting while a whole command waits.
+  -- of budgets that gets there. Ruled out: an engine that never draws the banner whose words came in two portions; one that
+  -- answers waiting while a whole command waits.
   pub same-end : y .state .write ≡ final → Rests ring y
-      → ((budgets : List ℕ) → Rests ring (atOnce ring s frame final budgets) → atOnce ring s frame final budgets ≡ y)
-      × ((budgets : List ℕ) × Budgets budgets × Rests ring (atOnce ring s frame final budgets))
+      → (budgets : List ℕ) → Rests ring (atOnce ring s frame final budgets) → atOnce ring s frame final budgets ≡ y
+  -- "in as many runs as that takes": by progress four with the largest budget always get there
+  pub at-once-rests : Rests ring (atOnce ring s frame final enoughRuns)
+  -- and the engine need not wait or have stopped: once the final pointer is in, as many runs more come to the same. Ruled
+  -- out: an engine that, once it was woken for half a command, never takes that command up.
+  pub same-at-last : y .state .write ≡ final → runs ring enoughRuns y ≡ atOnce ring s frame final enoughRuns
 
-pub Demand3 : Type 0
+unfoldable pub Demand3 : Type 0
 Demand3 =
     (ring : List ℕ) (s : State) (frame : List ℕ) (final : ℕ) (calls : List Call)
+    -- "Fix an accepted state, a ring, frame memory and one run of words from the read pointer to a final write pointer that
+    -- publishing accepts"
     → Fixed ring s frame
     → Accepted (publish s final)
     → Along ring s final calls (start s frame)
@@ -79,20 +96,9 @@ Demand3 =
     → (performs (lent ring calls) (start s frame) ≡ course (lent ring calls) (start s frame))
     × Arrived ring s frame final (performs (lent ring calls) (start s frame))
 
--- The stronger form: the ring is lent anew at each call, and only the words already published need be those of the run. A
--- host may write the words that it has not published yet between the calls, as hosts do.
-abbrev pub Words : List ℕ → State → List ℕ → Call → Standing → Type 0
-Words all s ring (publishing p) y = Unit {0}
-Words all s ring (running budget) y = Agree ring all (s .core .ringlength) (s .core .read) (y .state .write)
-Words all s ring asking y = Unit {0}
-Words all s ring restarting y = Unit {0}
-
-abbrev pub AlongFed : List ℕ → State → ℕ → List Lent → Standing → Type 0
-AlongFed all s final [] y = Unit {0}
-AlongFed all s final (x ∷ xs) y =
-    Allowed s final (x .call) y × Words all s (x .ring) (x .call) y × AlongFed all s final xs (perform x y)
-
-pub Demand3Fed : Type 0
+-- the same with a ring lent anew at each call. Ruled out: an engine that reads a command's words again while it draws, when
+-- the host may have written over them; one that reads ahead of the write pointer.
+unfoldable pub Demand3Fed : Type 0
 Demand3Fed =
     (all : List ℕ) (s : State) (frame : List ℕ) (final : ℕ) (calls : List Lent)
     → Fixed all s frame
@@ -100,114 +106,6 @@ Demand3Fed =
     → AlongFed all s final calls (start s frame)
     → (performs calls (start s frame) ≡ course calls (start s frame))
     × Arrived all s frame final (performs calls (start s frame))
-
--- ---- publishing
-
--- an accepted publishing: the state is fit, the position is the ring's and the ring rule holds
-pub record Published (s : State) (p : ℕ) : Type 0 where
-  pub state-fit : unfit s ≡ false
-  pub position-in : p < s .core .ringlength
-  pub rule : waiting (s .core .ringlength) (s .core .read) (s .write) ≤ distance (s .core .ringlength) (s .core .read) p
-  pub state-is : publish s p .state ≡ withWrite s p
-  pub units-none : unitsOf (publish s p .reply) ≡ 0
-
-module _ (s : State) (p : ℕ) where
-  published : Accepted (publish s p) → Published s p
-  unfolding publish publishRefusal
-  published e = go (unfit s) (p <? s .core .ringlength) (waiting (s .core .ringlength) (s .core .read) (s .write) ≤? distance (s .core .ringlength) (s .core .read) p) refl refl refl
-    where
-      no : (k : ℕ) → numberOf (publish s p .reply) ≡ suc k → Published s p
-      no k q = absurd (let z : suc k ≡ 0 = sym q ∙ e in omega arith)
-
-      go : (u a b : Bool) → unfit s ≡ u → p <? s .core .ringlength ≡ a
-          → waiting (s .core .ringlength) (s .core .read) (s .write) ≤? distance (s .core .ringlength) (s .core .read) p ≡ b → Published s p
-      go true a b eu ea eb = no 2 (rw eu)
-      go false false b eu ea eb = no 4 (rw (eu, ea))
-      go false true false eu ea eb = no 5 (rw (eu, ea, eb))
-      go false true true eu ea eb = record {
-        state-fit = eu;
-        position-in = ltb-true _ _ ea;
-        rule = leb-true _ _ eb;
-        state-is = rw (eu, ea, eb);
-        units-none = rw (eu, ea, eb);
-      }
-
-  -- the plain course's test is that the publishing is accepted
-  course-publishes : not (unfit s) && p <? s .core .ringlength
-      && waiting (s .core .ringlength) (s .core .read) (s .write) ≤? distance (s .core .ringlength) (s .core .read) p ≡ true
-      → Accepted (publish s p)
-  unfolding publish publishRefusal
-  course-publishes e =
-      let two = both (not (unfit s) && p <? s .core .ringlength) _ e in
-      let one = both (not (unfit s)) (p <? s .core .ringlength) (two .0) in
-      rw (not-true (unfit s) (one .0), one .1, two .1)
-
--- ---- runs
-
--- the engine rests exactly where no unit can be done
-rests-impossible : (ring : List ℕ) (y : Standing) → Rests ring y → possible ring (y .state .core) (y .state .write) ≡ false
-unfolding runWord
-rests-impossible ring y h = go (y .state .core .stop =? 0) (possible ring (y .state .core) (y .state .write)) refl refl h
-  where
-    s : State
-    s = y .state
-
-    go : (a b : Bool) → s .core .stop =? 0 ≡ a → possible ring (s .core) (s .write) ≡ b → Rests ring y
-        → possible ring (s .core) (s .write) ≡ false
-    go a false ea eb h = eb
-    go false true ea eb h = absurd (eqb-false _ _ ea (possible-running ring (s .core) (s .write) eb))
-    go true true ea eb h =
-        let w : runWord ring s ≡ Spent = rw (ea, eb) in
-        ⊎-elim
-        (λ q. let z : _≡_ {A = ℕ} 0 1 = cc in absurd (omega arith))
-        (λ q. let z : _≡_ {A = ℕ} 0 1 = cc in absurd (omega arith))
-        h
-
-impossible-rests : (ring : List ℕ) (y : Standing) → possible ring (y .state .core) (y .state .write) ≡ false → Rests ring y
-unfolding runWord
-impossible-rests ring y e = go (y .state .core .stop =? 0) refl
-  where
-    go : (a : Bool) → y .state .core .stop =? 0 ≡ a → Rests ring y
-    go false p = inr (rw p)
-    go true p = inl (rw (p, e))
-
--- a run of a sound standing is its units
-sound-course : (ring : List ℕ) (y : Standing) (budget : ℕ) → Sound ring (y .state .write) (machineOf (y .state) (y .frame))
-    → courseCall ring (running budget) y ≡ courseUnits ring budget y
-unfolding courseCall
-sound-course ring y budget h =
-    rw (
-      parts-fit (y .state) (h .fit),
-      eq-eqb (length ring) (y .state .core .ringlength) (h .ring-is),
-      eq-eqb (length (y .frame)) (y .state .core .framelength) (h .frame-is),
-    )
-
-run-units : (ring : List ℕ) (y : Standing) (budget : ℕ) → Sound ring (y .state .write) (machineOf (y .state) (y .frame))
-    → perform (record { ring = ring; call = running budget }) y
-    ≡ standing (y .state .write) (units ring (y .state .write) budget (y .sum) (machineOf (y .state) (y .frame)))
-run-units ring y budget h =
-    perform-course ring y (running budget) ∙ sound-course ring y budget h ∙ course-units ring budget y
-
--- several runs are as many units as their budgets allow together
-runs-total : (ring : List ℕ) (budgets : List ℕ) (y : Standing) → Sound ring (y .state .write) (machineOf (y .state) (y .frame))
-    → performs (lent ring (map running budgets)) y
-    ≡ standing (y .state .write) (units ring (y .state .write) (total budgets) (y .sum) (machineOf (y .state) (y .frame)))
-runs-total ring [] y h = rw (units-zero ring (y .state .write) (y .sum) (machineOf (y .state) (y .frame)))
-runs-total ring (b ∷ bs) y h =
-    let w = y .state .write in
-    let m = machineOf (y .state) (y .frame) in
-    let d = units ring w b (y .sum) m in
-    ap (performs (lent ring (map running bs))) (run-units ring y b h)
-    ∙ runs-total ring bs (standing w d) (sound-units ring w b (y .sum) m h)
-    ∙ ap (standing w) (sym (units-add ring w b (total bs) (y .sum) m))
-
-total-ones : (n : ℕ) → total (replicate n 1) ≡ n
-total-ones zero = refl
-total-ones (suc n) = let i = total-ones n in omega arith
-
-budgets-ones : (n : ℕ) → Budgets (replicate n 1)
-budgets-ones zero = tt
-budgets-ones (suc n) = (omega arith, budgets-ones n)
 
 -- ---- the calls of a list, one after the other
 
@@ -248,7 +146,7 @@ module _ (all : List ℕ) (s : State) (frame : List ℕ) (final : ℕ) where
   so-run : (y : Standing) (ring : List ℕ) (budget : ℕ) → length all ≡ s .core .ringlength → So y
       → Words all s ring (running budget) y → So (courseCall ring (running budget) y)
   unfolding courseCall
-  so-run y ring budget all-is h agree = go test refl
+  so-run y ring budget all-is h words = go test refl
     where
       c : Core
       c = y .state .core
@@ -265,11 +163,13 @@ module _ (all : List ℕ) (s : State) (frame : List ℕ) (final : ℕ) where
           let two = both (not (unfit (y .state)) && (length ring =? c .ringlength)) _ e in
           let ring-is = eqb-true _ _ (both (not (unfit (y .state))) _ (two .0) .1) ∙ h .on .size-is in
           let m = machineOf (y .state) (y .frame) in
-          let t = units-taken (s .core .ringlength) (s .core .read) final w ring all ring-is all-is agree budget (y .sum) m (h .on) in
+          let here = on-here (s .core .ringlength) (s .core .read) final w c (h .on) in
+          let agree = words (course-runs ring y budget e) in
+          let t = units-taken (s .core .ringlength) (c .read) final w ring all ring-is all-is agree budget (y .sum) m here in
           let d = units ring w budget (y .sum) m in
           rw (course-units ring budget y)
           (record {
-            on = t .stays;
+            on = on-back (s .core .ringlength) (s .core .read) final w c (h .on) (d .machine .core) (t .stays);
             plain =
                 ap (λ (k : ℕ). units all final k 0 (machineOf s frame)) (t .used-is)
                 ∙ units-add all final (y .sum) (t .count) 0 (machineOf s frame)
@@ -349,7 +249,7 @@ module _ (all : List ℕ) (s : State) (frame : List ℕ) (final : ℕ) (fixed : 
 
   at-once : (budgets : List ℕ) → atOnce all s frame final budgets ≡ standing final (units all final (total budgets) 0 m)
   at-once budgets =
-      ap (performs (lent all (map running budgets))) published-standing
+      ap (runs all budgets) published-standing
       ∙ runs-total all budgets (start (withWrite s final) frame) sound-final
 
   -- two numbers of units at whose end nothing more can be done have the same end
@@ -374,27 +274,43 @@ module _ (all : List ℕ) (s : State) (frame : List ℕ) (final : ℕ) (fixed : 
           ∙ ap (λ (x : ℕ). units all final x 0 m) (sym s)
           ∙ e
 
+  -- after publishing at once, enough runs come to rest
+  ends : possible all (units all final (total enoughRuns) 0 m .machine .core) final ≡ false
+  ends = units-end all final (total enoughRuns) 0 m (sound-final .fit) (units-enough final (s .core) (sound-final .fit))
+
+  -- more units than that are none
+  no-more : (n : ℕ) → units all final (n + total enoughRuns) 0 m ≡ units all final (total enoughRuns) 0 m
+  no-more n =
+      let e : n + total enoughRuns ≡ total enoughRuns + n = omega arith in
+      let d = units all final (total enoughRuns) 0 m in
+      ap (λ (k : ℕ). units all final k 0 m) e ∙ units-add all final (total enoughRuns) n 0 m
+      ∙ units-stop all final n (d .used) (d .machine) ends
+
+  -- enough runs after the calls
+  at-last : (y : Standing) → So all s frame final y → y .state .write ≡ final
+      → runs all enoughRuns y ≡ atOnce all s frame final enoughRuns
+  at-last y h w =
+      let k = machineOf (y .state) (y .frame) in
+      let sound : Sound all final k = rw (h .plain) at (sound-units all final (y .sum) 0 m sound-final) in
+      runs-total all enoughRuns y (rw w sound)
+      ∙ ap (λ (x : ℕ). standing x (units all x (total enoughRuns) (y .sum) k)) w
+      ∙ ap (λ (d : Done). standing final (units all final (total enoughRuns) (d .used) (d .machine))) (sym (h .plain))
+      ∙ ap (standing final) (sym (units-add all final (y .sum) (total enoughRuns) 0 m) ∙ no-more (y .sum))
+      ∙ sym (at-once enoughRuns)
+
   arrived : (y : Standing) → So all s frame final y → Arrived all s frame final y
   arrived y h = record {
     same-units = rw (p .state-is) (h .plain);
-    same-end = λ w r.
-        let z : possible all (y .state .core) final ≡ false = rw w at (rests-impossible all y r) in (
-          λ budgets q.
-              let e = at-once budgets in
-              let i = rests-impossible all (standing final (units all final (total budgets) 0 m)) (rw e at q) in
-              e ∙ ap (standing final) (same-rest (y .sum) (total budgets) (machineOf (y .state) (y .frame)) (h .plain) z i)
-              ∙ ap (λ (x : ℕ). standing x (done (machineOf (y .state) (y .frame)) (y .sum))) (sym w),
-          (
-            replicate (y .sum) 1,
-            budgets-ones (y .sum),
-            (let e : atOnce all s frame final (replicate (y .sum) 1) ≡ y =
-                at-once (replicate (y .sum) 1)
-                ∙ ap (λ (n : ℕ). standing final (units all final n 0 m)) (total-ones (y .sum))
-                ∙ ap (standing final) (h .plain)
-                ∙ ap (λ (x : ℕ). standing x (done (machineOf (y .state) (y .frame)) (y .sum))) (sym w) in
-                rw e r),
-          ),
-        );
+    same-end = λ w r budgets q.
+        let z : possible all (y .state .core) final ≡ false = rw w at (rests-impossible all y r) in
+        let e = at-once budgets in
+        let i = rests-impossible all (standing final (units all final (total budgets) 0 m)) (rw e at q) in
+        e ∙ ap (standing final) (same-rest (y .sum) (total budgets) (machineOf (y .state) (y .frame)) (h .plain) z i)
+        ∙ ap (λ (x : ℕ). standing x (done (machineOf (y .state) (y .frame)) (y .sum))) (sym w);
+    at-once-rests =
+        subst (Rests all) (sym (at-once enoughRuns))
+        (impossible-rests all (standing final (units all final (total enoughRuns) 0 m)) ends);
+    same-at-last = at-last y h;
   }
 
 pub demand3-fed : Demand3Fed
@@ -418,7 +334,7 @@ along-fed ring s final (x ∷ xs) y a =
   where
     words : (call : Call) → Words ring s ring call y
     words (publishing p) = tt
-    words (running budget) = λ x l h. refl
+    words (running budget) = λ a x l h. refl
     words asking = tt
     words restarting = tt
 

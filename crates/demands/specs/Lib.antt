@@ -3,5 +3,9 @@ pub mod Table
 pub mod Demand1
 pub mod Demand2
 pub mod Courses
+pub mod Runs
 pub mod Arrival
+pub mod Lasting
+pub mod Progress
 pub mod Demand3
+pub mod Night

@@ -1,0 +1,350 @@
+-- Progress. In the words of the user: what is in the queue leaves the queue. From every accepted state with its ring and frame
+-- memory, after a number of units that ring and registers bound, nothing more can be done, and then the engine has stopped
+-- with a number or no whole command waits.
+use Prim.Native.Nat.{ℕ, zero, suc, _+_, _-_, _*_, _/_, _%_, _≤_, _<_}
+use mathlib.Core.Path.{_≡_, refl, sym, ap, subst}
+use mathlib.Core.Bool.{Bool, true, false, not, _||_}
+use mathlib.Core.List.{List}
+use native.Mathlib.Omega.{arith}
+use native.Mathlib.Nat.{mod-self, mod-lt}
+use lib.ListN.{replicate}
+use lib.Dec.{leb}
+use borrow.Author.Tests.{leb-true, leb-false, ltb-false, eqb-true, eqb-false}
+use Rattle.model.specs.Choice.{_<?_, _≤?_, _=?_, if_then_else_, not-both, both, neither}
+use Rattle.model.specs.Limits.{budgetMost, sideMost}
+use Rattle.model.specs.Ring.{waiting, distance-lt, empty}
+use Rattle.model.specs.Command.{kindOf, draws, commandLength, returns, badHeader, badReturn, headerRefusal, whole, readAfter}
+use Rattle.model.specs.Judging.{judge}
+use Rattle.model.specs.Unit.{Machine, headerAt, loadedAt, commandRefusal, stopped, loadedCore, drawnCore, pixelCount, unit, possible, units}
+use Rattle.model.specs.Steps.{unit-loads, unit-refuses, unit-draws}
+use Rattle.model.specs.Calls.{badPlace, machineOf}
+use Rattle.model.specs.Course.{Standing}
+use Rattle.model.specs.Perform.{runs, total, Fixed}
+use Rattle.model.specs.declared.Core.{Core}
+use Rattle.model.specs.declared.State.{State}
+use Rattle.model.specs.declared.Kind.{Kind}
+use Rattle.model.specs.declared.Kind.the-variants.{Blt, Vector}
+use Rattle.model.specs.declared.Place.{Place}
+use Rattle.model.specs.declared.Place.the-variants.{Idle, Drawing}
+use Rattle.laws.specs.Circle.{distance-sum, distance-next}
+use Rattle.laws.specs.Units.{units-zero, units-stop, units-step}
+use Rattle.laws.specs.Numbers.{area-most}
+use Rattle.laws.specs.Ranges.{fit-blt, fit-vector}
+use Rattle.laws.specs.Fit.{Fit, fit-parts, place-parts, accepted-header, accepted-judge, possible-running, fit-unit}
+use Rattle.laws.specs.Sound.{Sound, sound-units}
+use Rattle.demands.specs.Courses.{standing}
+use Rattle.demands.specs.Runs.{runs-total}
+use Rattle.demands.specs.Arrival.{ready-whole, idle-ready}
+use Rattle.demands.specs.Waits.{Whole, no-word, not-whole, NoCommand, Waits, impossible-waits}
+
+-- ---- the statement: how many units can be left
+
+-- A command costs one unit for its load and one for each pixel, of which there are at most 4095 by 4095: 16,769,026.
+abbrev pub commandUnits : ℕ
+commandUnits = sideMost * sideMost + 1
+
+-- Shared out over the 17 words of a BLT that makes 986,414 for each word, rounded up. (A vector has 14 words and far fewer
+-- pixels, 4095.)
+abbrev pub wordUnits : ℕ
+wordUnits = (commandUnits + commandLength Blt - 1) / commandLength Blt
+
+-- the pixels that are left of the command that is being drawn
+abbrev pub pixelsLeft : List ℕ → Place → ℕ
+pixelsLeft registers Idle = 0
+pixelsLeft registers (Drawing kind k) = pixelCount kind registers - k
+
+-- the unit that refuses a command, after which there is none
+abbrev pub refusalLeft : ℕ → ℕ
+refusalLeft zero = 1
+refusalLeft (suc stop) = 0
+
+-- together, with the write pointer at w
+unfoldable pub unitsLeft : ℕ → Core → ℕ
+unitsLeft w c = pixelsLeft (c .registers) (c .place) + refusalLeft (c .stop) + wordUnits * waiting (c .ringlength) (c .read) w
+
+-- So many runs with the largest budget use all of that up, whatever the ring holds: four, since 16,769,026 and 986,414 for
+-- each of 16,383 words come to 16,177,189,588 units, and four budgets to 17,179,869,180.
+abbrev pub runsEnough : ℕ
+runsEnough = 4
+
+abbrev pub enoughRuns : List ℕ
+enoughRuns = replicate runsEnough budgetMost
+
+-- ---- the statement
+
+-- what still waits is less than a command: not all its words, or, with W, not those up to the ring's end
+pub data Part (ring : List ℕ) (c : Core) (write : ℕ) : Type 0 where
+  words-missing : waiting (c .ringlength) (c .read) write < commandLength (kindOf (headerAt ring c)) → Part ring c write
+  end-missing : returns (headerAt ring c) ≡ true → waiting (c .ringlength) (c .read) write < c .ringlength - c .read
+      → Part ring c write
+
+-- "then the engine has stopped with a number or no whole command waits"
+pub data AtRest (ring : List ℕ) (s : State) : Type 0 where
+  has-stopped : 21 ≤ s .core .stop → s .core .stop ≤ 28 → AtRest ring s
+  waits : Waits ring s → Part ring (s .core) (s .write) → AtRest ring s
+
+pub record Ended (ring : List ℕ) (s : State) : Type 0 where
+  -- "nothing more can be done"
+  pub no-unit : possible ring (s .core) (s .write) ≡ false
+  pub at-rest : AtRest ring s
+
+-- from a standing, by runs with whatever budgets
+pub record Ends (ring : List ℕ) (y : Standing) : Type 0 where
+  -- the units that can be left, seen from the state, are enough. Ruled out: an engine that reports units and does none; one
+  -- that begins a refused command anew with each run.
+  pub by-state : (budgets : List ℕ) → unitsLeft (y .state .write) (y .state .core) ≤ total budgets
+      → Ended ring (runs ring budgets y .state)
+  -- and no runs do more. Ruled out: an engine whose vector never ends.
+  pub never-more : (budgets : List ℕ) → runs ring budgets y .sum ≤ y .sum + unitsLeft (y .state .write) (y .state .core)
+  -- by the words that wait alone: "each waiting word is good for at most 986,414 units"
+  pub by-words : (budgets : List ℕ)
+      → commandUnits + wordUnits * waiting (y .state .core .ringlength) (y .state .core .read) (y .state .write) ≤ total budgets
+      → Ended ring (runs ring budgets y .state)
+  -- "four runs of the largest budget always suffice". Ruled out: an engine that, once it was woken for half a command, never
+  -- takes that command up; one that waits at the ring's end for a word that it has passed.
+  pub by-runs : Ended ring (runs ring enoughRuns y .state)
+
+-- From every accepted state with ring and frame memory of its lengths, such as every list of calls leaves (`Lasting`)
+abbrev pub Progress : Type 0
+Progress = (ring : List ℕ) (y : Standing) → Fixed ring (y .state) (y .frame) → Ends ring y
+
+-- ---- what a load takes off
+
+-- with W it does not run across the ring's end, where 22 does not refuse it
+before-end : (n read header : ℕ) → headerRefusal n read header ≡ 0 → returns header ≡ true
+    → read + commandLength (kindOf header) ≤ n
+unfolding headerRefusal badReturn
+before-end n read header z p = go (badHeader header) (read =? 0 || n <? read + commandLength (kindOf header)) refl (rw p at z)
+  where
+    go : (x y : Bool) → (read =? 0 || n <? read + commandLength (kindOf header)) ≡ y
+        → _≡_ {A = ℕ} (if x then 21 else if y then 22 else 0) 0 → read + commandLength (kindOf header) ≤ n
+    go true y e q = absurd (eqb-false 21 0 refl q)
+    go false true e q = absurd (eqb-false 22 0 refl q)
+    go false false e q = ltb-false _ _ (neither (read =? 0) _ e .1)
+
+-- the words that the read pointer passes: at least the command's own
+passes : (n read w header : ℕ) → read < n → headerRefusal n read header ≡ 0 → whole n read w header ≡ true
+    → (k : ℕ) × (commandLength (kindOf header) ≤ k) × (k ≤ waiting n read w) × (readAfter n read header ≡ (read + k) % n)
+unfolding whole readAfter
+passes n read w header h z e = go (returns header) refl (both (commandLength (kindOf header) ≤? waiting n read w) _ e)
+  where
+    go : (b : Bool) → returns header ≡ b
+        → (commandLength (kindOf header) ≤? waiting n read w ≡ true)
+        × (not (returns header) || n - read ≤? waiting n read w ≡ true)
+        → (k : ℕ) × (commandLength (kindOf header) ≤ k) × (k ≤ waiting n read w)
+        × ((if b then 0 else (read + commandLength (kindOf header)) % n) ≡ (read + k) % n)
+    go false p q = (commandLength (kindOf header), omega arith, leb-true _ _ (q .0), refl)
+    go true p q =
+        let t : n - read ≤? waiting n read w ≡ true = rw p at (q .1) in
+        let s : read + (n - read) ≡ n = omega arith in
+        let l = before-end n read header z p in
+        (n - read, omega arith, leb-true _ _ t, rw s (sym (mod-self n)))
+
+-- so many wait less afterwards
+waits-less : (n read w header : ℕ) → read < n → w < n → headerRefusal n read header ≡ 0 → whole n read w header ≡ true
+    → waiting n (readAfter n read header) w + commandLength (kindOf header) ≤ waiting n read w
+unfolding waiting
+waits-less n read w header h l z e =
+    let a = passes n read w header h z e in
+    let d = distance-lt n read w h in
+    let o = empty n read in
+    let t = distance-next n read read (a .0) h h (omega (arith, a .2)) in
+    let i : (read + a .0) % n < n = mod-lt (read + a .0) (omega arith) in
+    let s = distance-sum n read ((read + a .0) % n) w h i l (omega (arith, a .2)) in
+    rw (a .3) (omega (arith, a .1))
+
+-- ---- a command that judging accepts has not too many pixels
+
+pixels-most : (kind : Kind) (registers : List ℕ) (framelength : ℕ) → judge kind registers framelength ≡ 0
+    → pixelCount kind registers + 1 ≤ wordUnits * commandLength kind
+unfolding pixelCount
+pixels-most Blt registers framelength e = let h = area-most (fit-blt registers framelength e .to) in omega arith
+pixels-most Vector registers framelength e = let h = fit-vector registers framelength e .ranged .long-most in omega arith
+
+pixels-in-all : (kind : Kind) (registers : List ℕ) (framelength : ℕ) → judge kind registers framelength ≡ 0
+    → pixelCount kind registers + 1 ≤ commandUnits
+unfolding pixelCount
+pixels-in-all Blt registers framelength e = let h = area-most (fit-blt registers framelength e .to) in omega arith
+pixels-in-all Vector registers framelength e = let h = fit-vector registers framelength e .ranged .long-most in omega arith
+
+-- ---- each unit leaves fewer
+
+module _ (ring : List ℕ) (w : ℕ) (c : Core) (fit : Fit c w) where
+  loads-less : commandRefusal ring c ≡ 0 → whole (c .ringlength) (c .read) w (headerAt ring c) ≡ true
+      → unitsLeft w (loadedCore ring c) < unitsLeft w c
+  unfolding unitsLeft loadedCore
+  loads-less a e =
+      let less = waits-less (c .ringlength) (c .read) w (headerAt ring c) (fit .read-in) (fit .write-in) (accepted-header ring c a) e in
+      go (draws (headerAt ring c)) refl less
+    where
+      go : (b : Bool) → draws (headerAt ring c) ≡ b
+          → waiting (c .ringlength) (readAfter (c .ringlength) (c .read) (headerAt ring c)) w + commandLength (kindOf (headerAt ring c))
+          ≤ waiting (c .ringlength) (c .read) w
+          → pixelsLeft (loadedAt ring c) (if b then Drawing (kindOf (headerAt ring c)) 0 else Idle) + refusalLeft (c .stop)
+          + wordUnits * waiting (c .ringlength) (readAfter (c .ringlength) (c .read) (headerAt ring c)) w
+          < pixelsLeft (c .registers) (c .place) + refusalLeft (c .stop) + wordUnits * waiting (c .ringlength) (c .read) w
+      go true d less =
+          let h = pixels-most (kindOf (headerAt ring c)) (loadedAt ring c) (c .framelength) (accepted-judge ring c a d) in
+          omega arith
+      go false d less = omega arith
+
+  refuses-less : c .stop ≡ 0 → (commandRefusal ring c ≡ 0 → ⊥) → unitsLeft w (stopped c (commandRefusal ring c)) < unitsLeft w c
+  unfolding unitsLeft stopped
+  refuses-less z n = let a = ap refusalLeft z in let b = none (commandRefusal ring c) n in omega arith
+    where
+      none : (k : ℕ) → (k ≡ 0 → ⊥) → refusalLeft k ≡ 0
+      none zero h = absurd (h refl)
+      none (suc k) h = refl
+
+  draws-less : (kind : Kind) (k : ℕ) → c .place ≡ Drawing kind k → k < pixelCount kind (c .registers)
+      → unitsLeft w (drawnCore c kind (k + 1)) < unitsLeft w c
+  unfolding unitsLeft drawnCore
+  draws-less kind k p l = let e = ap (pixelsLeft (c .registers)) p in go (pixelCount kind (c .registers) ≤? k + 1) e
+    where
+      go : (b : Bool) → pixelsLeft (c .registers) (c .place) ≡ pixelCount kind (c .registers) - k
+          → pixelsLeft (c .registers) (if b then Idle else Drawing kind (k + 1)) + refusalLeft (c .stop)
+          + wordUnits * waiting (c .ringlength) (c .read) w
+          < pixelsLeft (c .registers) (c .place) + refusalLeft (c .stop) + wordUnits * waiting (c .ringlength) (c .read) w
+      go true e = omega arith
+      go false e = omega arith
+
+pub unit-less : (ring : List ℕ) (w : ℕ) (m : Machine) → Fit (m .core) w → possible ring (m .core) w ≡ true
+    → unitsLeft w (unit ring m .core) < unitsLeft w (m .core)
+unit-less ring w m fit e = go (m .core .place) refl
+  where
+    c : Core
+    c = m .core
+
+    idle : (b : Bool) → commandRefusal ring c =? 0 ≡ b → c .place ≡ Idle → unitsLeft w (unit ring m .core) < unitsLeft w c
+    idle true h p =
+        let a = eqb-true _ _ h in
+        rw (unit-loads ring m p a)
+        (loads-less ring w c fit a (ready-whole ring c w (idle-ready ring c w p e) (accepted-header ring c a)))
+    idle false h p =
+        let a = eqb-false _ _ h in
+        rw (unit-refuses ring m p a) (refuses-less ring w c fit (possible-running ring c w e) a)
+
+    go : (q : Place) → c .place ≡ q → unitsLeft w (unit ring m .core) < unitsLeft w c
+    go Idle p = idle (commandRefusal ring c =? 0) refl p
+    go (Drawing kind k) p =
+        rw (unit-draws ring m kind k p)
+        (draws-less ring w c fit kind k p (place-parts c kind k (rw p at (fit .place-fit)) .within))
+
+-- ---- so they end
+
+pub units-end : (ring : List ℕ) (w k used : ℕ) (m : Machine) → Fit (m .core) w → unitsLeft w (m .core) ≤ k
+    → possible ring (units ring w k used m .machine .core) w ≡ false
+units-end ring w zero used m fit l = rw (units-zero ring w used m) (go (possible ring (m .core) w) refl)
+  where
+    go : (b : Bool) → possible ring (m .core) w ≡ b → possible ring (m .core) w ≡ false
+    go true e = absurd (let h = unit-less ring w m fit e in omega arith)
+    go false e = e
+units-end ring w (suc k) used m fit l =
+    go (possible ring (m .core) w) refl
+    (λ e. units-end ring w k (used + 1) (unit ring m) (fit-unit ring m w fit e) (let h = unit-less ring w m fit e in omega arith))
+  where
+    go : (b : Bool) → possible ring (m .core) w ≡ b
+        → (possible ring (m .core) w ≡ true → possible ring (units ring w k (used + 1) (unit ring m) .machine .core) w ≡ false)
+        → possible ring (units ring w (suc k) used m .machine .core) w ≡ false
+    go true e i = rw (units-step ring w k used m e) (i e)
+    go false e i = rw (units-stop ring w (suc k) used m e) e
+
+-- how many at most, in a fit state
+pub units-most : (w : ℕ) (c : Core) → Fit c w
+    → unitsLeft w c ≤ commandUnits + wordUnits * waiting (c .ringlength) (c .read) w
+unfolding unitsLeft
+units-most w c fit = omega (arith, pixels (c .place) (fit .place-fit), refusal (c .stop))
+  where
+    pixels : (q : Place) → badPlace c q ≡ false → pixelsLeft (c .registers) q + 1 ≤ commandUnits
+    pixels Idle e = omega arith
+    pixels (Drawing kind k) e =
+        let h = pixels-in-all kind (c .registers) (c .framelength) (place-parts c kind k e .judged) in omega arith
+
+    refusal : (k : ℕ) → refusalLeft k ≤ 1
+    refusal zero = omega arith
+    refusal (suc k) = omega arith
+
+-- and with the longest ring
+pub units-enough : (w : ℕ) (c : Core) → Fit c w → unitsLeft w c ≤ total enoughRuns
+unfolding waiting
+units-enough w c fit =
+    let d = distance-lt (c .ringlength) (c .read) w (fit .read-in) in
+    let l = fit .ring-most in
+    omega (arith, units-most w c fit)
+
+-- more than those that are left are not done
+units-few : (ring : List ℕ) (w k used : ℕ) (m : Machine) → Fit (m .core) w
+    → units ring w k used m .used ≤ used + unitsLeft w (m .core)
+units-few ring w zero used m fit = rw (units-zero ring w used m) (omega arith)
+units-few ring w (suc k) used m fit =
+    go (possible ring (m .core) w) refl (λ e. units-few ring w k (used + 1) (unit ring m) (fit-unit ring m w fit e))
+  where
+    go : (b : Bool) → possible ring (m .core) w ≡ b
+        → (possible ring (m .core) w ≡ true
+        → units ring w k (used + 1) (unit ring m) .used ≤ used + 1 + unitsLeft w (unit ring m .core))
+        → units ring w (suc k) used m .used ≤ used + unitsLeft w (m .core)
+    go true e i =
+        let l = unit-less ring w m fit e in
+        let h = i e in
+        rw (units-step ring w k used m e) (omega arith)
+    go false e i = rw (units-stop ring w (suc k) used m e) (omega arith)
+
+-- ---- the theorem
+
+part : (ring : List ℕ) (c : Core) (w : ℕ) → NoCommand ring c w → Part ring c w
+part ring c w (no-word e) = words-missing (omega arith)
+part ring c w (not-whole g f) = go (leb (commandLength (kindOf (headerAt ring c))) (waiting (c .ringlength) (c .read) w)) refl
+  where
+    ends : (b : Bool) → leb (c .ringlength - c .read) (waiting (c .ringlength) (c .read) w) ≡ b → (r : Bool)
+        → returns (headerAt ring c) ≡ r → commandLength (kindOf (headerAt ring c)) ≤ waiting (c .ringlength) (c .read) w
+        → Part ring c w
+    ends false e true p l = end-missing p (leb-false _ _ e)
+    ends true e true p l = absurd (f (record { words-wait = l; reach-end = λ q. leb-true _ _ e }))
+    ends b e false p l = absurd (f (record { words-wait = l; reach-end = λ q. absurd (not-both (returns (headerAt ring c)) q p) }))
+
+    go : (b : Bool) → leb (commandLength (kindOf (headerAt ring c))) (waiting (c .ringlength) (c .read) w) ≡ b → Part ring c w
+    go false e = words-missing (leb-false _ _ e)
+    go true e =
+        ends (leb (c .ringlength - c .read) (waiting (c .ringlength) (c .read) w)) refl (returns (headerAt ring c)) refl (leb-true _ _ e)
+
+at-rest : (ring : List ℕ) (s : State) → Fit (s .core) (s .write) → possible ring (s .core) (s .write) ≡ false → AtRest ring s
+at-rest ring s fit e = go (s .core .stop =? 0) refl
+  where
+    go : (b : Bool) → s .core .stop =? 0 ≡ b → AtRest ring s
+    go true p =
+        let h = impossible-waits ring s (eqb-true _ _ p) e in
+        waits h (part ring (s .core) (s .write) (h .no-command))
+    go false p =
+        let h = neither (s .core .stop <? 21) (28 <? s .core .stop) (rw p at (fit .stop-fit)) in
+        has-stopped (ltb-false _ _ (h .0)) (ltb-false _ _ (h .1))
+
+module _ (ring : List ℕ) (y : Standing) (fixed : Fixed ring (y .state) (y .frame)) where
+  abbrev m : Machine
+  m = machineOf (y .state) (y .frame)
+
+  abbrev w : ℕ
+  w = y .state .write
+
+  pub fixed-sound : Sound ring w m
+  fixed-sound = record { fit = fit-parts (y .state) (fixed .state-fit); ring-is = fixed .ring-is; frame-is = fixed .frame-is }
+
+  ended : (budgets : List ℕ) → unitsLeft w (y .state .core) ≤ total budgets → Ended ring (runs ring budgets y .state)
+  ended budgets l =
+      let d = units ring w (total budgets) (y .sum) m in
+      let e = units-end ring w (total budgets) (y .sum) m (fixed-sound .fit) l in
+      let f = sound-units ring w (total budgets) (y .sum) m fixed-sound .fit in
+      subst (λ (x : Standing). Ended ring (x .state)) (sym (runs-total ring budgets y fixed-sound))
+      (record { no-unit = e; at-rest = at-rest ring (standing w d .state) f e })
+
+pub progress : Progress
+progress ring y fixed =
+    let fit = fixed-sound ring y fixed .fit in
+    record {
+      by-state = ended ring y fixed;
+      never-more = λ budgets.
+          subst (λ (x : Standing). x .sum ≤ y .sum + unitsLeft (y .state .write) (y .state .core))
+          (sym (runs-total ring budgets y (fixed-sound ring y fixed)))
+          (units-few ring (y .state .write) (total budgets) (y .sum) (machineOf (y .state) (y .frame)) fit);
+      by-words = λ budgets l. ended ring y fixed budgets (omega (arith, units-most (y .state .write) (y .state .core) fit));
+      by-runs = ended ring y fixed enoughRuns (units-enough (y .state .write) (y .state .core) fit);
+    }
