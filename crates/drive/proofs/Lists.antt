@@ -29,28 +29,28 @@ frame-start ring (Call.running budget) s frame sum = refl
 frame-start ring Call.asking s frame sum = refl
 frame-start ring Call.restarting s frame sum = refl
 
-module _ (ring kinds values : List ℕ) where
+module _ (ring kinds positions budgets : List ℕ) where
   -- the calls that are left, from number i on
   abbrev pub rest : ℕ → ℕ → Standing → Standing
-  rest n i y = course (lent ring (callsOf kinds values (n - i) i)) y
+  rest n i y = course (lent ring (callsOf kinds positions budgets (n - i) i)) y
 
   pub one-call : (n i : ℕ) (s : State) (frame : List ℕ) (sum : ℕ) → i < n
-      → let call = callOf (getD kinds i 0) (getD values i 0) in
+      → let call = callOf (getD kinds i 0) (getD positions i 0) (getD budgets i 0) in
       rest n i (standing s frame sum)
       ≡ rest n (i + 1)
       (standing (answerOf ring call (start s frame) .state) (frameOf ring call (start s frame)) (sum + unitsOf (answerOf ring call (start s frame) .reply)))
   unfolding callsOf
   one-call n i s frame sum h =
-      let call = callOf (getD kinds i 0) (getD values i 0) in
+      let call = callOf (getD kinds i 0) (getD positions i 0) (getD budgets i 0) in
       let y = standing s frame sum in
       let e : n - i ≡ suc (n - (i + 1)) = omega arith in
       let p = perform-course ring y call in
       rw (e, answer-start ring call s frame sum, frame-start ring call s frame sum)
-      (ap (course (lent ring (callsOf kinds values (n - (i + 1)) (i + 1)))) (sym p))
+      (ap (course (lent ring (callsOf kinds positions budgets (n - (i + 1)) (i + 1)))) (sym p))
 
   pub no-call : (n : ℕ) (y : Standing) → rest n n y ≡ y
   unfolding callsOf
   no-call n y = let e : n - n ≡ 0 = omega arith in rw e
 
-  pub all-calls : (n : ℕ) (y : Standing) → course (lent ring (callsOf kinds values n 0)) y ≡ rest n 0 y
+  pub all-calls : (n : ℕ) (y : Standing) → course (lent ring (callsOf kinds positions budgets n 0)) y ≡ rest n 0 y
   all-calls n y = let e : n - 0 ≡ n = omega arith in rw e

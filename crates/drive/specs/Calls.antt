@@ -5,15 +5,16 @@ use lib.ListN.{getD}
 use Rattle.model.specs.Choice.{_=?_, if_then_else_}
 use Rattle.model.specs.Course.{Call, publishing, running, asking, restarting}
 
--- 0 publishes the value, 1 runs with the value as its budget, 2 asks for the room, any other restarts
-unfoldable pub callOf : ℕ → ℕ → Call
-callOf kind value =
-    if kind =? 0 then publishing value
-    else if kind =? 1 then running value
+-- 0 publishes the position, 1 runs with the budget, 2 asks for the room, any other restarts
+unfoldable pub callOf : ℕ → ℕ → ℕ → Call
+callOf kind position budget =
+    if kind =? 0 then publishing position
+    else if kind =? 1 then running budget
     else if kind =? 2 then asking
     else restarting
 
 -- n calls from number i on
-unfoldable pub callsOf : List ℕ → List ℕ → ℕ → ℕ → List Call
-callsOf kinds values zero i = []
-callsOf kinds values (suc n) i = callOf (getD kinds i 0) (getD values i 0) ∷ callsOf kinds values n (i + 1)
+unfoldable pub callsOf : List ℕ → List ℕ → List ℕ → ℕ → ℕ → List Call
+callsOf kinds positions budgets zero i = []
+callsOf kinds positions budgets (suc n) i =
+    callOf (getD kinds i 0) (getD positions i 0) (getD budgets i 0) ∷ callsOf kinds positions budgets n (i + 1)

@@ -1,11 +1,11 @@
-// Demand 3 tied to the code: a list of calls, performed one after the other by the engine's public calls, is the plain course.
+// Demand 3 tied to the code: what a list of calls comes to, performed one after the other by the engine's public calls.
 ghost use mathlib.Core.Path.{_≡_};
 ghost use Prim.Native.Nat.{_≤_};
 ghost use lib.ListN.{length};
 ghost use Rattle.model.specs.Calls.{unitsOf};
-ghost use Rattle.model.specs.Course.{course};
-ghost use Rattle.model.specs.Perform.{answerOf, frameOf, lent, start};
+ghost use Rattle.model.specs.Perform.{answerOf, frameOf, start};
 ghost use Rattle.drive.specs.Calls.{callOf, callsOf};
+ghost use Rattle.drive.specs.Demanded.{Demanded};
 use model::Answer;
 use model::Reply;
 use model::State;
@@ -17,14 +17,21 @@ pub struct Driven {
 }
 
 // Performs one call.
-fn perform(kind: u8, value: u32, words: &[u32], s: State, frame: &mut [u8]) -> Answer
-    ensures { λ r. ⌜ (r ≡ answerOf (now (words .entry)) (callOf kind value) (start s (now (frame .entry)))) × (now (frame .exit) ≡ frameOf (now (words .entry)) (callOf kind value) (start s (now (frame .entry)))) ⌝ }
+fn perform(
+    kind: u8,
+    position: usize,
+    budget: u32,
+    words: &[u32],
+    s: State,
+    frame: &mut [u8],
+) -> Answer
+    ensures { λ r. ⌜ (r ≡ answerOf (now (words .entry)) (callOf kind position budget) (start s (now (frame .entry)))) × (now (frame .exit) ≡ frameOf (now (words .entry)) (callOf kind position budget) (start s (now (frame .entry)))) ⌝ }
 {
     if kind == 0 {
-        return engine::publish(s, value as usize);
+        return engine::publish(s, position);
     }
     if kind == 1 {
-        return engine::run(words, s, frame, value);
+        return engine::run(words, s, frame, budget);
     }
     if kind == 2 {
         return engine::room(s);
@@ -47,18 +54,27 @@ fn units(reply: Reply) -> u32
     }
 }
 
-// Performs a list of calls, call i being kinds[i] with values[i], each getting what the last one left.
-pub fn drive(kinds: &[u8], values: &[u32], words: &[u32], s: State, frame: &mut [u8]) -> Driven
-    requires { ⌜ (length (now kinds) ≤ length (now values)) × (length (now kinds) ≤ 4294967295) ⌝ }
-    ensures { λ r. ⌜ record { state = r .state; frame = now (frame .exit); sum = r .sum } ≡ course (lent (now (words .entry)) (callsOf (now (kinds .entry)) (now (values .entry)) (length (now (kinds .entry))) 0)) (start s (now (frame .entry))) ⌝ }
+// Performs a list of calls, each getting what the last one left: call i is of kind kinds[i], a publishing of positions[i] or a
+// run with budgets[i]. What it returns has arrived, as demand 3 says: (a) always, (b) and (c) where its hypotheses hold.
+pub fn drive(
+    kinds: &[u8],
+    positions: &[usize],
+    budgets: &[u32],
+    words: &[u32],
+    s: State,
+    frame: &mut [u8],
+) -> Driven
+    requires { ⌜ (length (now kinds) ≤ length (now positions)) × (length (now kinds) ≤ length (now budgets)) × (length (now kinds) ≤ 4294967295) ⌝ }
+    ensures { λ r. ⌜ Demanded (now (words .entry)) s (now (frame .entry)) (callsOf (now (kinds .entry)) (now (positions .entry)) (now (budgets .entry)) (length (now (kinds .entry))) 0) (record { state = r .state; frame = now (frame .exit); sum = r .sum }) ⌝ }
 {
     let mut t = s;
     let mut sum: u64 = 0;
     let mut i = 0;
     while i < kinds.len() {
         let kind = kinds[i];
-        let value = values[i];
-        let a = perform(kind, value, words, t, frame);
+        let position = positions[i];
+        let budget = budgets[i];
+        let a = perform(kind, position, budget, words, t, frame);
         let next = a.state;
         let reply = a.reply;
         t = next;

@@ -6,16 +6,17 @@ use native.Mathlib.Omega.{arith}
 use borrow.Author.Needs.{needs}
 use lib.ListN.{length}
 use denote.Ref.{now}
+use Rattle.drive.specs.Demanded.{demanded}
 use Rattle.drive.proofs.drive.Statement.{statement}
 use Rattle.drive.proofs.drive.Tie as tie
 
 abbrev Inv-loop : tie.InvT-loop
-Inv-loop kinds values words frame₀ t₀ sum₀ i₀ frame t sum i =
+Inv-loop kinds positions budgets words frame₀ t₀ sum₀ i₀ frame t sum i =
     (i ≤ length kinds) × (sum ≤ 4294967295 * i) × (length frame ≡ length frame₀)
-    × (rest words kinds values (length kinds) 0 (standing t₀ frame₀ 0) ≡ rest words kinds values (length kinds) i (standing t frame sum))
+    × (rest words kinds positions budgets (length kinds) 0 (standing t₀ frame₀ 0) ≡ rest words kinds positions budgets (length kinds) i (standing t frame sum))
 
 abbrev μ-loop : tie.MeasureT-loop
-μ-loop kinds values words frame₀ t₀ sum₀ i₀ frame t sum i = length kinds - i
+μ-loop kinds positions budgets words frame₀ t₀ sum₀ i₀ frame t sum i = length kinds - i
 
 loop-holds : tie.Need-loop-holds Inv-loop μ-loop
 loop-holds c = (omega arith, omega arith, refl, refl)
@@ -23,11 +24,17 @@ loop-holds c = (omega arith, omega arith, refl, refl)
 shared-slice-read-kind : tie.Need-shared-slice-read-kind Inv-loop μ-loop
 shared-slice-read-kind c = omega arith
 
-mul-value : tie.Need-mul-value Inv-loop μ-loop
-mul-value c = omega arith
+mul-position : tie.Need-mul-position Inv-loop μ-loop
+mul-position c = omega arith
 
-shared-slice-read-value : tie.Need-shared-slice-read-value Inv-loop μ-loop
-shared-slice-read-value c = omega arith
+shared-slice-read-position : tie.Need-shared-slice-read-position Inv-loop μ-loop
+shared-slice-read-position c = omega arith
+
+mul-budget : tie.Need-mul-budget Inv-loop μ-loop
+mul-budget c = omega arith
+
+shared-slice-read-budget : tie.Need-shared-slice-read-budget Inv-loop μ-loop
+shared-slice-read-budget c = omega arith
 
 perform-requires : tie.Need-perform-requires Inv-loop μ-loop
 perform-requires c κs = search needs
@@ -49,14 +56,14 @@ loop-less c = omega arith
 
 loop-again : tie.Need-loop-again Inv-loop μ-loop
 loop-again c =
-    let l = c .before .before .before .before .before .before .before .before .before .loop in
-    let a = c .before .before .before .before .before .before .before .before .before .before .before .before .before .before .args in (
+    let l = c .before .before .before .before .before .before .before .before .before .before .loop in
+    let a = c .before .before .before .before .before .before .before .before .before .before .before .before .before .before .before .before .args in (
       omega arith,
       omega arith,
-      c .before .before .before .before .perform .kept .1 .1 .1 .1 .0 ∙ l .inv .2,
+      c .before .before .before .before .perform .kept .1 .1 .1 .1 .1 .0 ∙ l .inv .2,
       l .inv .3
           ∙ rw (c .units .ensures, c .before .before .before .before .perform .ensures .0, c .before .before .before .before .perform .ensures .1)
-          (one-call (now (a .words)) (now (a .kinds)) (now (a .values)) (length (now (a .kinds))) (l .i) (l .t) (l .frame) (l .sum) (c .before .before .before .before .before .before .before .before .loop-test .taken)),
+          (one-call (now (a .words)) (now (a .kinds)) (now (a .positions)) (now (a .budgets)) (length (now (a .kinds))) (l .i) (l .t) (l .frame) (l .sum) (c .before .before .before .before .before .before .before .before .before .loop-test .taken)),
     )
 
 same-length : tie.Need-same-length Inv-loop μ-loop
@@ -65,11 +72,12 @@ same-length c = c .before .loop .inv .2
 returns : tie.Need-returns Inv-loop μ-loop
 returns c =
     let l = c .before .loop in
-    let a = c .before .before .before .before .before .before .args in
+    let a = c .before .before .before .before .before .before .before .args in
     let e : l .i ≡ length (now (a .kinds)) = omega arith in
-    sym (all-calls (now (a .words)) (now (a .kinds)) (now (a .values)) (length (now (a .kinds))) _ ∙ l .inv .3
-    ∙ ap (λ (i : ℕ). rest (now (a .words)) (now (a .kinds)) (now (a .values)) (length (now (a .kinds))) i (standing (l .t) (l .frame) (l .sum))) e
-    ∙ no-call (now (a .words)) (now (a .kinds)) (now (a .values)) (length (now (a .kinds))) _)
+    demanded _ _ _ _ _
+    (sym (all-calls (now (a .words)) (now (a .kinds)) (now (a .positions)) (now (a .budgets)) (length (now (a .kinds))) _ ∙ l .inv .3
+    ∙ ap (λ (i : ℕ). rest (now (a .words)) (now (a .kinds)) (now (a .positions)) (now (a .budgets)) (length (now (a .kinds))) i (standing (l .t) (l .frame) (l .sum))) e
+    ∙ no-call (now (a .words)) (now (a .kinds)) (now (a .positions)) (now (a .budgets)) (length (now (a .kinds))) _))
 
 pub drive-spec : {M : Type 1} → statement M
 drive-spec =
@@ -79,8 +87,10 @@ drive-spec =
     μ-loop
     loop-holds
     shared-slice-read-kind
-    mul-value
-    shared-slice-read-value
+    mul-position
+    shared-slice-read-position
+    mul-budget
+    shared-slice-read-budget
     perform-requires
     units-requires
     cast-sum
