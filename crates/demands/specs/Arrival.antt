@@ -3,7 +3,7 @@
 use Prim.Native.Nat.{ℕ, zero, suc, _+_, _-_, _%_, _≤_, _<_}
 use mathlib.Core.Path.{_≡_, refl, sym, ap, _∙_}
 use mathlib.Core.Bool.{Bool, true, false, not, _||_}
-use mathlib.Core.Logic.{⊎-elim}
+use mathlib.Core.Logic.{_⊎_, inl, inr, ⊎-elim}
 use mathlib.Core.List.{List, [], _∷_}
 use native.Mathlib.Omega.{arith}
 use native.Mathlib.Nat.{add-zero, mod-lt, mod-self}
@@ -11,7 +11,7 @@ use lib.ListN.{length}
 use borrow.Author.Tests.{leb-true, eqb-true, eqb-false, not-true}
 use Rattle.model.specs.Choice.{_≤?_, _=?_, if_then_else_, both, either, not-both, or-left, or-right}
 use Rattle.model.specs.Ring.{Agree, distance, waiting, wordAt, distance-lt, distance-leads, empty}
-use Rattle.model.specs.Command.{kindOf, draws, wordRegisters, commandLength, returns, headerRefusal, whole, loadWords, loaded, readAfter}
+use Rattle.model.specs.Command.{kindOf, wordRegisters, commandLength, returns, headerRefusal, whole, loadWords, loaded, readAfter}
 use Rattle.model.specs.Unit.{Machine, Done, headerAt, loadedAt, commandRefusal, ready, stopped, loadedCore, drawnCore, unit, drawing, possible, units}
 use Rattle.model.specs.Steps.{unit-loads, unit-refuses, unit-draws, possible-later}
 use Rattle.model.specs.declared.Core.{Core}
@@ -71,8 +71,12 @@ module _ (n o f w : ℕ) (c : Core) (on : OnRun n o f w c) where
 -- ---- what a ready command waits for
 
 -- its own words, or with W those to the ring's end: as many as the read pointer passes
-advance : (n read w header : ℕ) → read < n → whole n read w header ≡ true
-    → (k : ℕ) × (k ≤ waiting n read w) × (readAfter n read header ≡ (read + k) % n)
+abbrev pub Passed : ℕ → ℕ → ℕ → ℕ → Type 0
+Passed n read header k =
+    ((returns header ≡ false) × (k ≡ commandLength (kindOf header))) ⊎ ((returns header ≡ true) × (k ≡ n - read))
+
+pub advance : (n read w header : ℕ) → read < n → whole n read w header ≡ true
+    → (k : ℕ) × (k ≤ waiting n read w) × (readAfter n read header ≡ (read + k) % n) × Passed n read header k
 unfolding whole readAfter
 advance n read w header h e = go (returns header) refl (both (commandLength (kindOf header) ≤? waiting n read w) _ e)
   where
@@ -80,11 +84,12 @@ advance n read w header h e = go (returns header) refl (both (commandLength (kin
         → (commandLength (kindOf header) ≤? waiting n read w ≡ true)
         × (not (returns header) || n - read ≤? waiting n read w ≡ true)
         → (k : ℕ) × (k ≤ waiting n read w) × ((if b then 0 else (read + commandLength (kindOf header)) % n) ≡ (read + k) % n)
-    go false p q = (commandLength (kindOf header), leb-true _ _ (q .0), refl)
+        × Passed n read header k
+    go false p q = (commandLength (kindOf header), leb-true _ _ (q .0), refl, inl (p, refl))
     go true p q =
         let t : n - read ≤? waiting n read w ≡ true = rw p at (q .1) in
         let s : read + (n - read) ≡ n = omega arith in
-        (n - read, leb-true _ _ t, rw s (sym (mod-self n)))
+        (n - read, leb-true _ _ t, rw s (sym (mod-self n)), inr (p, refl))
 
 pub whole-words : (n read w header : ℕ) → whole n read w header ≡ true → commandLength (kindOf header) ≤ waiting n read w
 unfolding whole

@@ -25,7 +25,7 @@ use Rattle.model.specs.declared.Place.the-variants.{Idle, Drawing}
 use Rattle.model.specs.declared.RunWord.{RunWord}
 use Rattle.model.specs.declared.RunWord.the-variants.{Waiting}
 use Rattle.model.specs.declared.Reply.the-variants.{Refused, Done as Accepted, Ran}
-use Rattle.laws.specs.Fit.{Fit, fit-parts, parts-fit, place-parts, accepted-header}
+use Rattle.laws.specs.Fit.{fit-parts, parts-fit, place-parts, accepted-header}
 use Rattle.laws.specs.Sound.{sound-run, sound-units}
 use Rattle.laws.specs.Units.{units-stop}
 use Rattle.demands.specs.Waits.{Whole, GoodHeader, NoCommand, no-word, not-whole, Waits, waits-word, test-whole, test-good, good-test, not-ready, none-ready}

@@ -3,17 +3,18 @@
 -- with a number or no whole command waits.
 use Prim.Native.Nat.{ℕ, zero, suc, _+_, _-_, _*_, _/_, _%_, _≤_, _<_}
 use mathlib.Core.Path.{_≡_, refl, sym, ap, subst}
-use mathlib.Core.Bool.{Bool, true, false, not, _||_}
+use mathlib.Core.Bool.{Bool, true, false, _||_}
+use mathlib.Core.Logic.{⊎-elim}
 use mathlib.Core.List.{List}
 use native.Mathlib.Omega.{arith}
-use native.Mathlib.Nat.{mod-self, mod-lt}
+use native.Mathlib.Nat.{mod-lt}
 use lib.ListN.{replicate}
 use lib.Dec.{leb}
 use borrow.Author.Tests.{leb-true, leb-false, ltb-false, eqb-true, eqb-false}
-use Rattle.model.specs.Choice.{_<?_, _≤?_, _=?_, if_then_else_, not-both, both, neither}
-use Rattle.model.specs.Limits.{budgetMost, sideMost}
+use Rattle.model.specs.Choice.{_<?_, _≤?_, _=?_, if_then_else_, not-both, neither}
+use Rattle.model.specs.Limits.{ringMost, budgetMost, sideMost}
 use Rattle.model.specs.Ring.{waiting, distance-lt, empty}
-use Rattle.model.specs.Command.{kindOf, draws, commandLength, returns, badHeader, badReturn, headerRefusal, whole, readAfter}
+use Rattle.model.specs.Command.{kindOf, draws, commandLength, returns, badReturn, whole, readAfter}
 use Rattle.model.specs.Judging.{judge}
 use Rattle.model.specs.Unit.{Machine, headerAt, loadedAt, commandRefusal, stopped, loadedCore, drawnCore, pixelCount, unit, possible, units}
 use Rattle.model.specs.Steps.{unit-loads, unit-refuses, unit-draws}
@@ -34,8 +35,8 @@ use Rattle.laws.specs.Fit.{Fit, fit-parts, place-parts, accepted-header, accept
 use Rattle.laws.specs.Sound.{Sound, sound-units}
 use Rattle.demands.specs.Courses.{standing}
 use Rattle.demands.specs.Runs.{runs-total}
-use Rattle.demands.specs.Arrival.{ready-whole, idle-ready}
-use Rattle.demands.specs.Waits.{Whole, no-word, not-whole, NoCommand, Waits, impossible-waits}
+use Rattle.demands.specs.Arrival.{advance, ready-whole, idle-ready}
+use Rattle.demands.specs.Waits.{GoodHeader, NoCommand, no-word, not-whole, Waits, test-good, impossible-waits}
 
 -- ---- the statement: how many units can be left
 
@@ -62,10 +63,10 @@ refusalLeft (suc stop) = 0
 unfoldable pub unitsLeft : ℕ → Core → ℕ
 unitsLeft w c = pixelsLeft (c .registers) (c .place) + refusalLeft (c .stop) + wordUnits * waiting (c .ringlength) (c .read) w
 
--- So many runs with the largest budget use all of that up, whatever the ring holds: four, since 16,769,026 and 986,414 for
--- each of 16,383 words come to 16,177,189,588 units, and four budgets to 17,179,869,180.
+-- So many runs with the largest budget come to all of that, whatever the ring holds: four, since 16,769,026 and 986,414 for
+-- each of 16,383 words are 16,177,189,588 units, and four budgets 17,179,869,180.
 abbrev pub runsEnough : ℕ
-runsEnough = 4
+runsEnough = (commandUnits + wordUnits * (ringMost - 1) + budgetMost - 1) / budgetMost
 
 abbrev pub enoughRuns : List ℕ
 enoughRuns = replicate runsEnough budgetMost
@@ -110,48 +111,33 @@ Progress = (ring : List ℕ) (y : Standing) → Fixed ring (y .state) (y .frame)
 
 -- ---- what a load takes off
 
--- with W it does not run across the ring's end, where 22 does not refuse it
-before-end : (n read header : ℕ) → headerRefusal n read header ≡ 0 → returns header ≡ true
-    → read + commandLength (kindOf header) ≤ n
-unfolding headerRefusal badReturn
-before-end n read header z p = go (badHeader header) (read =? 0 || n <? read + commandLength (kindOf header)) refl (rw p at z)
-  where
-    go : (x y : Bool) → (read =? 0 || n <? read + commandLength (kindOf header)) ≡ y
-        → _≡_ {A = ℕ} (if x then 21 else if y then 22 else 0) 0 → read + commandLength (kindOf header) ≤ n
-    go true y e q = absurd (eqb-false 21 0 refl q)
-    go false true e q = absurd (eqb-false 22 0 refl q)
-    go false false e q = ltb-false _ _ (neither (read =? 0) _ e .1)
+module _ (ring : List ℕ) (c : Core) (w : ℕ) (fit : Fit c w) where
+  abbrev header : ℕ
+  header = headerAt ring c
 
--- the words that the read pointer passes: at least the command's own
-passes : (n read w header : ℕ) → read < n → headerRefusal n read header ≡ 0 → whole n read w header ≡ true
-    → (k : ℕ) × (commandLength (kindOf header) ≤ k) × (k ≤ waiting n read w) × (readAfter n read header ≡ (read + k) % n)
-unfolding whole readAfter
-passes n read w header h z e = go (returns header) refl (both (commandLength (kindOf header) ≤? waiting n read w) _ e)
-  where
-    go : (b : Bool) → returns header ≡ b
-        → (commandLength (kindOf header) ≤? waiting n read w ≡ true)
-        × (not (returns header) || n - read ≤? waiting n read w ≡ true)
-        → (k : ℕ) × (commandLength (kindOf header) ≤ k) × (k ≤ waiting n read w)
-        × ((if b then 0 else (read + commandLength (kindOf header)) % n) ≡ (read + k) % n)
-    go false p q = (commandLength (kindOf header), omega arith, leb-true _ _ (q .0), refl)
-    go true p q =
-        let t : n - read ≤? waiting n read w ≡ true = rw p at (q .1) in
-        let s : read + (n - read) ≡ n = omega arith in
-        let l = before-end n read header z p in
-        (n - read, omega arith, leb-true _ _ t, rw s (sym (mod-self n)))
+  -- with W, where 22 does not refuse it, a command does not run across the ring's end
+  before-end : GoodHeader ring c → returns header ≡ true → c .read + commandLength (kindOf header) ≤ c .ringlength
+  unfolding badReturn
+  before-end good p =
+      let e : c .read =? 0 || c .ringlength <? c .read + commandLength (kindOf header) ≡ false = rw p at (good .not-22) in
+      ltb-false _ _ (neither (c .read =? 0) _ e .1)
 
--- so many wait less afterwards
-waits-less : (n read w header : ℕ) → read < n → w < n → headerRefusal n read header ≡ 0 → whole n read w header ≡ true
-    → waiting n (readAfter n read header) w + commandLength (kindOf header) ≤ waiting n read w
-unfolding waiting
-waits-less n read w header h l z e =
-    let a = passes n read w header h z e in
-    let d = distance-lt n read w h in
-    let o = empty n read in
-    let t = distance-next n read read (a .0) h h (omega (arith, a .2)) in
-    let i : (read + a .0) % n < n = mod-lt (read + a .0) (omega arith) in
-    let s = distance-sum n read ((read + a .0) % n) w h i l (omega (arith, a .2)) in
-    rw (a .3) (omega (arith, a .1))
+  -- so at least its own words wait less afterwards
+  waits-less : GoodHeader ring c → whole (c .ringlength) (c .read) w header ≡ true
+      → waiting (c .ringlength) (readAfter (c .ringlength) (c .read) header) w + commandLength (kindOf header)
+      ≤ waiting (c .ringlength) (c .read) w
+  unfolding waiting
+  waits-less good e =
+      let n = c .ringlength in
+      let h = fit .read-in in
+      let a = advance n (c .read) w header h e in
+      let own : commandLength (kindOf header) ≤ a .0 =
+      ⊎-elim (λ q. omega (arith, q .1)) (λ q. omega (arith, q .1, before-end good (q .0))) (a .3) in
+      let d = distance-lt n (c .read) w h in
+      let t = distance-next n (c .read) (c .read) (a .0) h h (omega (arith, a .1, empty n (c .read))) in
+      let i : (c .read + a .0) % n < n = mod-lt (c .read + a .0) (omega arith) in
+      let s = distance-sum n (c .read) ((c .read + a .0) % n) w h i (fit .write-in) (omega (arith, a .1, empty n (c .read))) in
+      rw (a .2) (omega (arith, empty n (c .read)))
 
 -- ---- a command that judging accepts has not too many pixels
 
@@ -174,7 +160,7 @@ module _ (ring : List ℕ) (w : ℕ) (c : Core) (fit : Fit c w) where
       → unitsLeft w (loadedCore ring c) < unitsLeft w c
   unfolding unitsLeft loadedCore
   loads-less a e =
-      let less = waits-less (c .ringlength) (c .read) w (headerAt ring c) (fit .read-in) (fit .write-in) (accepted-header ring c a) e in
+      let less = waits-less ring c w fit (test-good ring c w (accepted-header ring c a)) e in
       go (draws (headerAt ring c)) refl less
     where
       go : (b : Bool) → draws (headerAt ring c) ≡ b
@@ -348,3 +334,7 @@ progress ring y fixed =
       by-words = λ budgets l. ended ring y fixed budgets (omega (arith, units-most (y .state .write) (y .state .core) fit));
       by-runs = ended ring y fixed enoughRuns (units-enough (y .state .write) (y .state .core) fit);
     }
+
+-- the numbers, as the comments and the docs have them
+pub progress-numbers : (commandUnits ≡ 16_769_026) × (wordUnits ≡ 986_414) × (runsEnough ≡ 4)
+progress-numbers = (refl, refl, refl)

@@ -14,7 +14,7 @@ use Rattle.model.specs.Calls.{unfit, publish, run, runRefusal, ranAnswer, runWo
 use Rattle.model.specs.Course.{running, Standing, courseUnits, courseCall}
 use Rattle.model.specs.Perform.{perform, runs, total, Accepted, Rests}
 use Rattle.model.specs.declared.State.{State}
-use Rattle.model.specs.declared.RunWord.the-variants.{Stopped, Waiting, Spent}
+use Rattle.model.specs.declared.RunWord.the-variants.{Spent}
 use Rattle.laws.specs.Units.{units-zero, units-add}
 use Rattle.laws.specs.Fit.{parts-fit, possible-running}
 use Rattle.laws.specs.Sound.{Sound, sound-units}
