@@ -17,12 +17,12 @@ use Rattle.model.specs.Perform.{perform, performs, lent, runs, total, start, Ac
 use Rattle.model.specs.declared.Core.{Core}
 use Rattle.model.specs.declared.State.{State}
 use Rattle.laws.specs.Units.{units-zero, units-stop, units-add}
-use Rattle.laws.specs.Fit.{Fit, fit-parts}
+use Rattle.laws.specs.Fit.{Fit, fit-parts, parts-fit}
 use Rattle.laws.specs.Sound.{Sound, sound-units}
 use Rattle.demands.specs.Courses.{standing, course-units, perform-course, performs-course}
 use Rattle.demands.specs.Runs.{Published, published, course-publishes, course-runs, rests-impossible, impossible-rests, runs-total}
 use Rattle.demands.specs.Arrival.{OnRun, on-here, on-back, units-taken}
-use Rattle.demands.specs.Progress.{enoughRuns, units-end, units-enough}
+use Rattle.demands.specs.Progress.{enoughRuns, progress}
 
 -- ---- the statement: the calls
 
@@ -274,9 +274,14 @@ module _ (all : List ℕ) (s : State) (frame : List ℕ) (final : ℕ) (fixed : 
           ∙ ap (λ (x : ℕ). units all final x 0 m) (sym s)
           ∙ e
 
-  -- after publishing at once, enough runs come to rest
+  -- after publishing at once, enough runs come to rest: by progress
   ends : possible all (units all final (total enoughRuns) 0 m .machine .core) final ≡ false
-  ends = units-end all final (total enoughRuns) 0 m (sound-final .fit) (units-enough final (s .core) (sound-final .fit))
+  ends =
+      let y = start (withWrite s final) frame in
+      let f : Fixed all (y .state) (y .frame) =
+      record { state-fit = parts-fit (y .state) (sound-final .fit); ring-is = fixed .ring-is; frame-is = fixed .frame-is } in
+      subst (λ (x : Standing). possible all (x .state .core) (x .state .write) ≡ false) (runs-total all enoughRuns y sound-final)
+      (progress all y f .by-runs .no-unit)
 
   -- more units than that are none
   no-more : (n : ℕ) → units all final (n + total enoughRuns) 0 m ≡ units all final (total enoughRuns) 0 m

@@ -57,10 +57,9 @@ abbrev pub tapeUnits : (ℕ → ℕ) → ℕ → Reading → Reading
 tapeUnits tape zero x = x
 tapeUnits tape (suc k) x = tapeUnits tape k (tapeUnit tape x)
 
--- its next unit can be done with no word of the tape from number `written` on: with a write pointer w up to which no more words
--- wait than that
-abbrev pub Could : (ℕ → ℕ) → ℕ → Reading → Type 0
-Could tape written x =
+-- a further unit can be done with the words before number `written`: with a write pointer w up to which no more words wait
+abbrev pub Further : (ℕ → ℕ) → ℕ → Reading → Type 0
+Further tape written x =
     let c = x .machine .core in
     (w : ℕ) × (possible (window tape (c .ringlength) (x .at)) c w ≡ true) × (x .at + waiting (c .ringlength) (c .read) w ≤ written)
 
@@ -132,12 +131,12 @@ pub record OnTape (tape : ℕ → ℕ) (s : State) (frame : List ℕ) (written :
   -- lap's old words; one that after W draws the words that stood at ring word 0 a lap before.
   pub same-units :
       tapeUnits tape (y .sum) (firstReading s frame) ≡ record { machine = machineOf (y .state) (y .frame); at = readAt written y }
-  -- Each of these units could be done with the words written. Ruled out: an engine that reports units after it has stopped; one
+  -- Each of these units can be done with the words written. Ruled out: an engine that reports units after it has stopped; one
   -- that draws a command before its last word is published, by the word that stood there a lap before.
-  pub each-could : (k : ℕ) → k < y .sum → Could tape written (tapeUnits tape k (firstReading s frame))
+  pub each-possible : (k : ℕ) → k < y .sum → Further tape written (tapeUnits tape k (firstReading s frame))
   -- Where the engine rests the plain machine can go no further. Ruled out: an engine that, where the write pointer comes round
   -- to the read pointer of a lap before, takes the ring as empty.
-  pub at-rest : (ring : List ℕ) → Resting tape written ring y → Could tape written (tapeUnits tape (y .sum) (firstReading s frame)) → ⊥
+  pub at-rest : (ring : List ℕ) → Resting tape written ring y → Further tape written (tapeUnits tape (y .sum) (firstReading s frame)) → ⊥
   -- The write pointer is the absolute write position modulo the ring size. Ruled out: an engine whose refused publishing, or
   -- whose run, moves it.
   pub write-is : written % s .core .ringlength ≡ y .state .write
@@ -279,7 +278,7 @@ reading m at = record { machine = m; at = at }
 
 -- a unit over the ring is one over the tape
 record Stepped (tape : ℕ → ℕ) (n w written : ℕ) (ring : List ℕ) (m : Machine) (at : ℕ) : Type 0 where
-  could : Could tape written (reading m at)
+  further : Further tape written (reading m at)
   next : ℕ
   forward : at ≤ next
   same : tapeUnit tape (reading m at) ≡ reading (unit ring m) next
@@ -293,7 +292,7 @@ record Taken (tape : ℕ → ℕ) (n w written used : ℕ) (x : Reading) (d : Do
   forward : x .at ≤ at
   same : tapeUnits tape count x ≡ reading (d .machine) at
   here : Here n w written at (d .machine .core)
-  each : (k : ℕ) → k < count → Could tape written (tapeUnits tape k x)
+  each : (k : ℕ) → k < count → Further tape written (tapeUnits tape k x)
 
 module _ (tape : ℕ → ℕ) (n w written : ℕ) (ring : List ℕ) (ring-is : length ring ≡ n) where
   unit-stepped : (m : Machine) (at : ℕ) → Here n w written at (m .core)
@@ -304,7 +303,7 @@ module _ (tape : ℕ → ℕ) (n w written : ℕ) (ring : List ℕ) (ring-is : l
       let agree = here-agree tape n w written at c here ring holds in
       let u = unit-same n (c .read) w w ring (window tape n at) ring-is (length-window tape n at) agree m on e in
       record {
-        could = (
+        further = (
           w,
           subst (λ (q : ℕ). possible (window tape q at) c w ≡ true) (sym (here .size-is)) (u .0),
           subst (λ (q : ℕ). at + waiting q (c .read) w ≤ written) (sym (here .size-is)) (omega (arith, here .reach)),
@@ -356,9 +355,9 @@ module _ (tape : ℕ → ℕ) (n w written : ℕ) (ring : List ℕ) (ring-is : l
         where
           each : (t : Stepped tape n w written ring m at)
               → (r : Taken tape n w written (used + 1) (reading (unit ring m) (t .next)) (units ring w k (used + 1) (unit ring m)))
-              → (j : ℕ) → j < suc (r .count) → Could tape written (tapeUnits tape j (reading m at))
-          each t r zero h = t .could
-          each t r (suc j) h = subst (λ (z : Reading). Could tape written (tapeUnits tape j z)) (sym (t .same)) (r .each j (omega arith))
+              → (j : ℕ) → j < suc (r .count) → Further tape written (tapeUnits tape j (reading m at))
+          each t r zero h = t .further
+          each t r (suc j) h = subst (λ (z : Reading). Further tape written (tapeUnits tape j z)) (sym (t .same)) (r .each j (omega arith))
       go false e i = rw (units-stop ring w (suc k) used m e) (taken-none used m at here)
 
 tape-add : (tape : ℕ → ℕ) (a b : ℕ) (x : Reading) → tapeUnits tape (a + b) x ≡ tapeUnits tape b (tapeUnits tape a x)
@@ -373,10 +372,10 @@ module _ (tape : ℕ → ℕ) (n : ℕ) (first : Reading) where
     at : ℕ
     here : Here n (y .state .write) written at (y .state .core)
     same : tapeUnits tape (y .sum) first ≡ reading (machineOf (y .state) (y .frame)) at
-    each : (k : ℕ) → k < y .sum → Could tape written (tapeUnits tape k first)
+    each : (k : ℕ) → k < y .sum → Further tape written (tapeUnits tape k first)
 
-  later-could : (written more : ℕ) (x : Reading) → Could tape written x → Could tape (written + more) x
-  later-could written more x q = (q .0, q .1, omega (arith, q .2))
+  later-further : (written more : ℕ) (x : Reading) → Further tape written x → Further tape (written + more) x
+  later-further written more x q = (q .0, q .1, omega (arith, q .2))
 
   so-publish : (y : Standing) (written p : ℕ) → So y written
       → So (courseCall [] (publishing p) y) (writtenNext written (publishing p) y)
@@ -414,7 +413,7 @@ module _ (tape : ℕ → ℕ) (n : ℕ) (first : Reading) where
               reach = rw (h .here .size-is) (omega (arith, h .here .reach));
             };
             same = h .same;
-            each = λ k l. later-could written _ (tapeUnits tape k first) (h .each k l);
+            each = λ k l. later-further written _ (tapeUnits tape k first) (h .each k l);
           }
 
       -- an accepted publishing is counted, and a refused one is not
@@ -442,7 +441,7 @@ module _ (tape : ℕ → ℕ) (n : ℕ) (first : Reading) where
   -- some units more
   module _ (y : Standing) (written : ℕ) (h : So y written) (d : Done)
       (t : Taken tape n (y .state .write) written (y .sum) (reading (machineOf (y .state) (y .frame)) (h .at)) d) where
-    taken-each : (k : ℕ) (b : Bool) → ltb k (y .sum) ≡ b → k < y .sum + t .count → Could tape written (tapeUnits tape k first)
+    taken-each : (k : ℕ) (b : Bool) → ltb k (y .sum) ≡ b → k < y .sum + t .count → Further tape written (tapeUnits tape k first)
     taken-each k true e l = h .each k (ltb-true _ _ e)
     taken-each k false e l =
         let a = ltb-false k (y .sum) e in
@@ -450,7 +449,7 @@ module _ (tape : ℕ → ℕ) (n : ℕ) (first : Reading) where
         let q : tapeUnits tape k first ≡ tapeUnits tape (k - y .sum) (reading (machineOf (y .state) (y .frame)) (h .at)) =
         ap (λ (j : ℕ). tapeUnits tape j first) (sym s) ∙ tape-add tape (y .sum) (k - y .sum) first
         ∙ ap (tapeUnits tape (k - y .sum)) (h .same) in
-        subst (Could tape written) (sym q) (t .each (k - y .sum) (omega arith))
+        subst (Further tape written) (sym q) (t .each (k - y .sum) (omega arith))
 
     abbrev so-taken : So (standing (y .state .write) d) written
     so-taken = record {
@@ -560,12 +559,12 @@ module _ (tape : ℕ → ℕ) (s : State) (frame : List ℕ) (fit : unfit s ≡ 
         ∙ distance-leads n (c .read) (y .state .write) (h .here .read-in) (h .here .write-in)
 
     -- where the engine rests, the tape's machine can do no further unit
-    no-further : (ring : List ℕ) → Resting tape written ring y → Could tape written (tapeUnits tape (y .sum) first) → ⊥
-    no-further ring rest could =
+    no-further : (ring : List ℕ) → Resting tape written ring y → Further tape written (tapeUnits tape (y .sum) first) → ⊥
+    no-further ring rest further =
         let c = y .state .core in
         let w = y .state .write in
         let m = machineOf (y .state) (y .frame) in
-        let q = subst (Could tape written) (h .same) could in
+        let q = subst (Further tape written) (h .same) further in
         let reach = subst (λ (k : ℕ). h .at + waiting k (c .read) w ≡ written) (sym (h .here .size-is)) (h .here .reach) in
         let e = possible-later (window tape (c .ringlength) (h .at)) c (q .0) w (omega (arith, q .2)) (q .1) in
         let f = subst (λ (k : ℕ). possible (window tape k (h .at)) c w ≡ true) (h .here .size-is) e in
@@ -583,7 +582,7 @@ whole-night tape s frame calls fit hosted =
     let h = so-night tape s frame fit calls hosted in
     record {
       same-units = h .same ∙ ap (reading (machineOf (y .state) (y .frame))) (begins tape s frame fit y written h);
-      each-could = h .each;
+      each-possible = h .each;
       at-rest = no-further tape s frame fit y written h;
       write-is = stands tape s frame fit y written h;
     }
@@ -605,10 +604,10 @@ module _ (tape : ℕ → ℕ) (s : State) (frame : List ℕ) (fit : unfit s ≡ 
       go : (a b : Bool) → ltb (y .sum) (z .sum) ≡ a → ltb (z .sum) (y .sum) ≡ b → y ≡ z
       go true b ea eb =
           absurd (no-further tape s frame fit y u g ring rest
-          (subst (λ (k : ℕ). Could tape k (tapeUnits tape (y .sum) x)) (sym as-many) (h .each (y .sum) (ltb-true _ _ ea))))
+          (subst (λ (k : ℕ). Further tape k (tapeUnits tape (y .sum) x)) (sym as-many) (h .each (y .sum) (ltb-true _ _ ea))))
       go false true ea eb =
           absurd (no-further tape s frame fit z v h ring′ rest′
-          (subst (λ (k : ℕ). Could tape k (tapeUnits tape (z .sum) x)) as-many (g .each (z .sum) (ltb-true _ _ eb))))
+          (subst (λ (k : ℕ). Further tape k (tapeUnits tape (z .sum) x)) as-many (g .each (z .sum) (ltb-true _ _ eb))))
       go false false ea eb =
           let p = ltb-false (y .sum) (z .sum) ea in
           let q = ltb-false (z .sum) (y .sum) eb in

@@ -194,7 +194,7 @@ module _ (ring : List ℕ) (w : ℕ) (c : Core) (fit : Fit c w) where
       go true e = omega arith
       go false e = omega arith
 
-pub unit-less : (ring : List ℕ) (w : ℕ) (m : Machine) → Fit (m .core) w → possible ring (m .core) w ≡ true
+unit-less : (ring : List ℕ) (w : ℕ) (m : Machine) → Fit (m .core) w → possible ring (m .core) w ≡ true
     → unitsLeft w (unit ring m .core) < unitsLeft w (m .core)
 unit-less ring w m fit e = go (m .core .place) refl
   where
@@ -218,7 +218,7 @@ unit-less ring w m fit e = go (m .core .place) refl
 
 -- ---- so they end
 
-pub units-end : (ring : List ℕ) (w k used : ℕ) (m : Machine) → Fit (m .core) w → unitsLeft w (m .core) ≤ k
+units-end : (ring : List ℕ) (w k used : ℕ) (m : Machine) → Fit (m .core) w → unitsLeft w (m .core) ≤ k
     → possible ring (units ring w k used m .machine .core) w ≡ false
 units-end ring w zero used m fit l = rw (units-zero ring w used m) (go (possible ring (m .core) w) refl)
   where
@@ -236,7 +236,7 @@ units-end ring w (suc k) used m fit l =
     go false e i = rw (units-stop ring w (suc k) used m e) e
 
 -- how many at most, in a fit state
-pub units-most : (w : ℕ) (c : Core) → Fit c w
+units-most : (w : ℕ) (c : Core) → Fit c w
     → unitsLeft w c ≤ commandUnits + wordUnits * waiting (c .ringlength) (c .read) w
 unfolding unitsLeft
 units-most w c fit = omega (arith, pixels (c .place) (fit .place-fit), refusal (c .stop))
@@ -251,7 +251,7 @@ units-most w c fit = omega (arith, pixels (c .place) (fit .place-fit), refusal (
     refusal (suc k) = omega arith
 
 -- and with the longest ring
-pub units-enough : (w : ℕ) (c : Core) → Fit c w → unitsLeft w c ≤ total enoughRuns
+units-enough : (w : ℕ) (c : Core) → Fit c w → unitsLeft w c ≤ total enoughRuns
 unfolding waiting
 units-enough w c fit =
     let d = distance-lt (c .ringlength) (c .read) w (fit .read-in) in
