@@ -3,13 +3,13 @@
 use Prim.Native.Nat.{ℕ, zero, suc, _+_, _-_, _%_, _≤_, _<_}
 use mathlib.Core.Path.{_≡_, refl, sym, ap, _∙_}
 use mathlib.Core.Bool.{Bool, true, false, not, _||_}
-use mathlib.Core.Logic.{_⊎_, inl, inr, ⊎-elim}
+use mathlib.Core.Logic.{_⊎_, inl, inr}
 use mathlib.Core.List.{List, [], _∷_}
 use native.Mathlib.Omega.{arith}
 use native.Mathlib.Nat.{add-zero, mod-lt, mod-self}
 use lib.ListN.{length}
-use borrow.Author.Tests.{leb-true, eqb-true, eqb-false, not-true}
-use Rattle.model.specs.Choice.{_≤?_, _=?_, if_then_else_, both, either, not-both, or-left, or-right}
+use borrow.Author.Tests.{leb-true, eqb-true, eqb-false}
+use Rattle.model.specs.Choice.{_≤?_, _=?_, if_then_else_, both, or-left, or-right}
 use Rattle.model.specs.Ring.{Agree, distance, waiting, wordAt, distance-lt, distance-leads, empty}
 use Rattle.model.specs.Command.{kindOf, wordRegisters, commandLength, returns, headerRefusal, whole, loadWords, loaded, readAfter}
 use Rattle.model.specs.Unit.{Machine, Done, headerAt, loadedAt, commandRefusal, ready, stopped, loadedCore, drawnCore, unit, drawing, possible, units}
@@ -21,6 +21,7 @@ use Rattle.model.specs.declared.Place.the-variants.{Idle, Drawing}
 use Rattle.laws.specs.Circle.{distance-sum, distance-next}
 use Rattle.laws.specs.Units.{units-zero, units-stop, units-step}
 use Rattle.laws.specs.Fit.{accepted-header}
+use Rattle.demands.specs.Waits.{ready-header, ready-whole, idle-ready}
 
 -- where an engine stands on the run of words from o to the final position f, with the write pointer at w
 pub record OnRun (n o f w : ℕ) (c : Core) : Type 0 where
@@ -94,25 +95,6 @@ advance n read w header h e = go (returns header) refl (both (commandLength (kin
 pub whole-words : (n read w header : ℕ) → whole n read w header ≡ true → commandLength (kindOf header) ≤ waiting n read w
 unfolding whole
 whole-words n read w header e = leb-true _ _ (both (commandLength (kindOf header) ≤? waiting n read w) _ e .0)
-
-module _ (ring : List ℕ) (c : Core) (w : ℕ) (now : ready ring c w ≡ true) where
-  pub ready-header : 0 < waiting (c .ringlength) (c .read) w
-  unfolding ready
-  ready-header = leb-true _ _ (both (1 ≤? waiting (c .ringlength) (c .read) w) _ now .0)
-
-  pub ready-whole : headerRefusal (c .ringlength) (c .read) (headerAt ring c) ≡ 0
-      → whole (c .ringlength) (c .read) w (headerAt ring c) ≡ true
-  unfolding ready
-  ready-whole e =
-      ⊎-elim (λ p. absurd (eqb-false _ _ (not-true _ p) e)) (λ p. p)
-      (either (not (headerRefusal (c .ringlength) (c .read) (headerAt ring c) =? 0)) _
-      (both (1 ≤? waiting (c .ringlength) (c .read) w) _ now .1))
-
--- an idle engine that can do a unit has a ready command
-pub idle-ready : (ring : List ℕ) (c : Core) (w : ℕ) → c .place ≡ Idle → possible ring c w ≡ true → ready ring c w ≡ true
-unfolding possible
-idle-ready ring c w p e =
-    ⊎-elim (λ q. absurd (not-both _ q (ap drawing p))) (λ q. q) (either (drawing (c .place)) _ (both (c .stop =? 0) _ e .1))
 
 -- ---- a unit stays on the run
 

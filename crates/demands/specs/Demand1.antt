@@ -28,8 +28,7 @@ use Rattle.model.specs.declared.Reply.the-variants.{Refused, Done as Accepted, 
 use Rattle.laws.specs.Fit.{fit-parts, parts-fit, place-parts, accepted-header}
 use Rattle.laws.specs.Sound.{sound-run, sound-units}
 use Rattle.laws.specs.Units.{units-stop}
-use Rattle.demands.specs.Waits.{Whole, GoodHeader, NoCommand, no-word, not-whole, Waits, waits-word, test-whole, test-good, good-test, not-ready, none-ready}
-use Rattle.demands.specs.Arrival.{ready-whole, idle-ready}
+use Rattle.demands.specs.Waits.{Whole, GoodHeader, NoCommand, no-word, not-whole, Waits, waits-word, test-whole, test-good, good-test, not-ready, none-ready, ready-whole, idle-ready}
 use Rattle.demands.specs.Table.{Table, CommandRow, bad-header, bad-return, judged, judge-above, run-answers, table}
 
 -- ---- the statement

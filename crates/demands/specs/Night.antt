@@ -23,6 +23,8 @@ use Rattle.model.specs.declared.State.{State}
 use Rattle.laws.specs.Circle.{distance-sum, distance-next}
 use Rattle.laws.specs.Units.{units-zero, units-stop, units-step}
 use Rattle.laws.specs.Fit.{fit-parts}
+use Rattle.laws.specs.Sound.{sound-run}
+use Rattle.demands.specs.Table.{run-answers}
 use Rattle.demands.specs.Courses.{standing, course-units, perform-course}
 use Rattle.demands.specs.Runs.{published, course-publishes, course-runs, rests-impossible, impossible-rests, runs-total}
 use Rattle.demands.specs.Arrival.{OnRun, unit-on, unit-same}
@@ -177,6 +179,26 @@ NightAtLast =
     → Holds tape (writtenBy s frame other) ring′ (performs other (start s frame))
     → runs ring enoughRuns (performs one (start s frame)) ≡ runs ring′ enoughRuns (performs other (start s frame))
 
+-- What is asked of a host can be met, over every tape and by every list of calls that has no restart: by lending at each call
+-- the tape's words from the absolute read position on.
+abbrev pub lending : (ℕ → ℕ) → ℕ → List Call → Standing → List Lent
+lending tape written [] y = []
+lending tape written (call ∷ calls) y =
+    let x : Lent = record { ring = window tape (y .state .core .ringlength) (readAt written y); call = call } in
+    x ∷ lending tape (writtenNext written call y) calls (perform x y)
+
+abbrev pub NoRestart : List Call → Type 0
+NoRestart [] = Unit {0}
+NoRestart (publishing p ∷ calls) = NoRestart calls
+NoRestart (running budget ∷ calls) = NoRestart calls
+NoRestart (asking ∷ calls) = NoRestart calls
+NoRestart (restarting ∷ calls) = ⊥
+
+unfoldable pub NightsExist : Type 0
+NightsExist =
+    (tape : ℕ → ℕ) (s : State) (frame : List ℕ) (calls : List Call) → NoRestart calls
+    → Night tape s frame (lending tape (writtenFirst s) calls (start s frame))
+
 -- ---- the window
 
 length-listed : (n : ℕ) (f : ℕ → ℕ) → length (listed n f) ≡ n
@@ -214,14 +236,31 @@ pub window-three : window (λ k. k) 3 4 ≡ 6 ∷ 4 ∷ 5 ∷ []
 unfolding window distance
 window-three = refl
 
--- what is asked of a host can be met at any time: by lending the window
-pub window-lent : (tape : ℕ → ℕ) (y : Standing) (written : ℕ) → y .state .core .read < y .state .core .ringlength
+-- so the window is a ring to lend
+window-lent : (tape : ℕ → ℕ) (y : Standing) (written : ℕ) → y .state .core .read < y .state .core .ringlength
     → Holds tape written (window tape (y .state .core .ringlength) (readAt written y)) y
 unfolding waiting
 window-lent tape y written h k l u =
     let n = y .state .core .ringlength in
     let d = distance-lt n (y .state .core .read) (y .state .write) h in
     window-holds tape n (readAt written y) k l (omega arith)
+
+all-lent : (tape : ℕ → ℕ) (calls : List Call) (written : ℕ) (y : Standing) → NoRestart calls
+    → AllHosted tape written (lending tape written calls y) y
+all-lent tape [] written y none = tt
+all-lent tape (publishing p ∷ calls) written y none = (tt, all-lent tape calls _ _ none)
+all-lent tape (running budget ∷ calls) written y none =
+    let ring = window tape (y .state .core .ringlength) (readAt written y) in (
+      λ a. window-lent tape y written
+          (sound-run ring (y .state) (y .frame) (sym (run-answers ring (y .state) (y .frame) budget) ∙ a) .fit .read-in),
+      all-lent tape calls _ _ none,
+    )
+all-lent tape (asking ∷ calls) written y none = (tt, all-lent tape calls _ _ none)
+all-lent tape (restarting ∷ calls) written y none = absurd none
+
+pub nights-exist : NightsExist
+unfolding NightsExist
+nights-exist tape s frame calls none = all-lent tape calls (writtenFirst s) (start s frame) none
 
 -- ---- a unit over a ring that holds the tape's words
 

@@ -35,8 +35,8 @@ use Rattle.laws.specs.Fit.{Fit, fit-parts, place-parts, accepted-header, accept
 use Rattle.laws.specs.Sound.{Sound, sound-units}
 use Rattle.demands.specs.Courses.{standing}
 use Rattle.demands.specs.Runs.{runs-total}
-use Rattle.demands.specs.Arrival.{advance, ready-whole, idle-ready}
-use Rattle.demands.specs.Waits.{GoodHeader, NoCommand, no-word, not-whole, Waits, test-good, impossible-waits}
+use Rattle.demands.specs.Arrival.{advance}
+use Rattle.demands.specs.Waits.{GoodHeader, NoCommand, no-word, not-whole, Waits, test-good, impossible-waits, ready-whole, idle-ready}
 
 -- ---- the statement: how many units can be left
 

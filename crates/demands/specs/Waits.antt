@@ -1,12 +1,12 @@
 -- Waiting, in the words of demand 1: "nothing is being drawn and no whole command waits", and none that 21 or 22 refuses.
-use Prim.Native.Nat.{ℕ, _-_, _≤_}
+use Prim.Native.Nat.{ℕ, _-_, _≤_, _<_}
 use mathlib.Core.Path.{_≡_, refl, ap}
 use mathlib.Core.Bool.{Bool, true, false, not, _&&_, _||_}
 use mathlib.Core.Logic.{_↔_, ⊎-elim}
 use mathlib.Core.List.{List}
 use native.Mathlib.Omega.{arith}
-use borrow.Author.Tests.{leb-true, leb-false, le-leb, lt-leb, eqb-true, eqb-false, eq-eqb, not-false}
-use Rattle.model.specs.Choice.{_≤?_, _=?_, if_then_else_, true-or-false, not-both, both, neither}
+use borrow.Author.Tests.{leb-true, leb-false, le-leb, lt-leb, eqb-true, eqb-false, eq-eqb, not-true, not-false}
+use Rattle.model.specs.Choice.{_≤?_, _=?_, if_then_else_, true-or-false, not-both, both, either, neither}
 use Rattle.model.specs.Ring.{waiting}
 use Rattle.model.specs.Command.{kindOf, commandLength, returns, badHeader, badReturn, headerRefusal, whole}
 use Rattle.model.specs.Unit.{headerAt, ready, drawing, possible}
@@ -103,6 +103,29 @@ module _ (ring : List ℕ) (c : Core) (w : ℕ) where
       go : (b : Bool) → b && false ≡ false
       go true = refl
       go false = refl
+
+-- ---- a command that is ready
+
+module _ (ring : List ℕ) (c : Core) (w : ℕ) (now : ready ring c w ≡ true) where
+  pub ready-header : 0 < waiting (c .ringlength) (c .read) w
+  unfolding ready
+  ready-header = leb-true _ _ (both (1 ≤? waiting (c .ringlength) (c .read) w) _ now .0)
+
+  pub ready-whole : headerRefusal (c .ringlength) (c .read) (headerAt ring c) ≡ 0
+      → whole (c .ringlength) (c .read) w (headerAt ring c) ≡ true
+  unfolding ready
+  ready-whole e =
+      ⊎-elim (λ p. absurd (eqb-false _ _ (not-true _ p) e)) (λ p. p)
+      (either (not (headerRefusal (c .ringlength) (c .read) (headerAt ring c) =? 0)) _
+      (both (1 ≤? waiting (c .ringlength) (c .read) w) _ now .1))
+
+-- an engine that draws nothing and can do a unit has a command that is ready
+pub idle-ready : (ring : List ℕ) (c : Core) (w : ℕ) → c .place ≡ Idle → possible ring c w ≡ true → ready ring c w ≡ true
+unfolding possible
+idle-ready ring c w p e =
+    ⊎-elim (λ q. absurd (not-both _ q (ap drawing p))) (λ q. q) (either (drawing (c .place)) _ (both (c .stop =? 0) _ e .1))
+
+-- ---- the engine waits
 
 idle-place : (q : Place) → drawing q ≡ false → q ≡ Idle
 idle-place Idle e = refl
