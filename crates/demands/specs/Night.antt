@@ -59,7 +59,7 @@ abbrev pub tapeUnits : (ℕ → ℕ) → ℕ → Reading → Reading
 tapeUnits tape zero x = x
 tapeUnits tape (suc k) x = tapeUnits tape k (tapeUnit tape x)
 
--- a further unit can be done with the words before number `written`: with a write pointer w up to which no more words wait
+-- a further unit can be done with the words before number `written`: with a write pointer w that is no further on
 abbrev pub Further : (ℕ → ℕ) → ℕ → Reading → Type 0
 Further tape written x =
     let c = x .machine .core in
