@@ -1,0 +1,36 @@
+-- Text put into a buffer, piece by piece.
+use Prim.Native.Nat.{ℕ, _+_, _≤_}
+use mathlib.Core.Path.{_≡_, refl, sym, ap, _∙_}
+use mathlib.Core.List.{List, _++_, append-assoc}
+use native.Mathlib.Omega.{arith}
+use lib.ListN.{length, take, length-take}
+use Rattle.io.specs.Counts.{Counts}
+
+-- `after` is the buffer `before` with a text put into it at a place; the text ends at `end`, and is at most `most` bytes long
+pub record Put (before : List ℕ) (at : ℕ) (text : List ℕ) (most : ℕ) (after : List ℕ) (end : ℕ) : Type 0 where
+  pub end-most : end ≤ at + most
+  pub text-is : take end after ≡ take at before ++ text
+
+-- the first bytes of a buffer are a text
+pub record Holds (text : List ℕ) (after : List ℕ) (end : ℕ) : Type 0 where
+  pub counts : Counts end after
+  pub text-is : take end after ≡ text
+
+-- ---- laws
+
+-- one text after another
+pub put-then : {a b c s t : List ℕ} {at p e m n : ℕ} → Put a at s m b p → Put b p t n c e → Put a at (s ++ t) (m + n) c e
+put-then {a} {b} {c} {s} {t} {at} g h = record {
+  end-most = omega arith;
+  text-is = h .text-is ∙ ap (λ (x : List ℕ). x ++ t) (g .text-is) ∙ append-assoc (take at a) s t;
+}
+
+pub put-most : {a b s : List ℕ} {at e m n : ℕ} → m ≤ n → Put a at s m b e → Put a at s n b e
+put-most l h = record { end-most = omega arith; text-is = h .text-is }
+
+-- from the buffer's start, and with room for it
+pub put-holds : {a b s : List ℕ} {e m : ℕ} → m ≤ length b → Put a 0 s m b e → Holds s b e
+put-holds {a} {b} {s} {e} l h = record {
+  counts = (omega arith, omega (arith, length-take e b));
+  text-is = h .text-is;
+}
