@@ -1,3 +1,5 @@
 pub mod Replay
 pub mod Crc
-pub mod Text
+pub mod Recording
+pub mod Trace
+pub mod Input

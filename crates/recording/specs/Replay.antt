@@ -8,8 +8,6 @@ use lib.ListN.{length}
 use Rattle.model.specs.Choice.{_<?_, _=?_, if_then_else_, neither}
 use Rattle.model.specs.Calls.{numberOf, setup, publish, run, runFrame, restart, askRoom}
 use Rattle.model.specs.declared.State.{State}
-use Rattle.model.specs.declared.Reply.{Reply}
-use Rattle.model.specs.declared.Reply.the-variants.{Refused, Done as Accepted, Ran}
 use Rattle.model.specs.declared.Answer.{Answer}
 
 -- "a ring length above 4,096, a frame length above 32,768"
@@ -35,12 +33,6 @@ replayFrame ring frame p budget =
     if numberOf (made ring frame .reply) =? 0 then
     (if numberOf (told ring frame p .reply) =? 0 then runFrame ring (told ring frame p .state) frame budget else frame)
     else frame
-
--- the last line: the number that refused, or the stop number
-abbrev pub lastNumber : Reply → ℕ → ℕ
-lastNumber (Refused number) stop = number
-lastNumber (Accepted room) stop = 0
-lastNumber (Ran word units room) stop = stop
 
 -- the call of a trace's record: 1 publish, 2 run, 3 room, else restart
 unfoldable pub asked : ℕ → ℕ → State → List ℕ → List ℕ → Answer

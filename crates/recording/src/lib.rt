@@ -1,23 +1,25 @@
-// What the programs share: recordings read in parts, the calls that they ask for, and the lines that are written.
+// What the programs share: input and output, recordings and traces with the calls that they ask for, the checksum.
 ghost use mathlib.Core.Path.{_≡_};
-ghost use Prim.Native.Nat.{_+_, _*_, _≤_, _<_, min};
-ghost use lib.ListN.{length};
-ghost use Rattle.model.specs.Pixel.{readPixel};
-ghost use Rattle.model.specs.Calls.{numberOf, unitsOf, roomOf};
-ghost use Rattle.recording.specs.Replay.{badLengths, lastNumber, replay, replayFrame, asked, askedFrame};
-ghost use Rattle.io.specs.Counts.{Counts};
-ghost use Rattle.recording.specs.Text.{Put};
+ghost use Prim.Native.Nat.{_+_, _*_, _≤_, _<_};
+ghost use lib.ListN.{length, take, replicate};
+ghost use Rattle.model.specs.Calls.{refused, freshState};
+ghost use mathlib.Core.Bool.{true, false};
+ghost use Rattle.text.specs.Lines.{badLine};
+ghost use Rattle.text.specs.Buffers.{Holds};
+ghost use Rattle.recording.specs.Replay.{badLengths, replay, replayFrame, asked, askedFrame};
+ghost use Rattle.recording.specs.Recording.{fileWord, fileWords, badRecording, frameSize, headOf, outcomeOf, frameBytes, replayText};
+ghost use Rattle.recording.specs.Trace.{badRecord, held, stepOf, beginOf, Steps, Begins};
 ghost use Rattle.recording.specs.Crc.{crcBit, crcByte, crc32};
+ghost use Rattle.recording.specs.Input.{Within};
 use libc::STDIN_FILENO;
+use libc::STDOUT_FILENO;
 use model::Answer;
 use model::Core;
-use model::Kind;
 use model::Place;
 use model::Reply;
-use model::RunWord;
 use model::State;
 
-// ---- input
+// ---- input and output
 
 // The input: the file that the first argument names, or standard input without one. Where it cannot be opened, -1, and a
 // line on standard error that says why.
@@ -38,8 +40,45 @@ pub fn open() -> i32 {
     fd
 }
 
+// What reading comes to: how many bytes there are, or that the input cannot be read.
+pub enum Input {
+    Bytes(usize),
+    Failed,
+}
+
+// Reads until a buffer is full or the input ends. Where the input cannot be read, a line on standard error says why.
+pub fn read(fd: i32, buf: &mut [u8]) -> Input
+    ensures { λ r. ⌜ Within r (length (now (buf .exit))) ⌝ }
+{
+    let mut done = 0;
+    while done < buf.len() {
+        let got = libc::read(fd, &mut buf[done..]);
+        if got < 0 {
+            os::fail(b"cannot read the input");
+            return Input::Failed;
+        }
+        let n = io::count(got, &buf[done..]);
+        if n == 0 {
+            return Input::Bytes(done);
+        }
+        done += n;
+    }
+    Input::Bytes(done)
+}
+
+// Writes a text to standard output: false where it cannot be written, and a line on standard error then says why.
+pub fn write(text: &[u8]) -> bool {
+    let written = io::write_all(STDOUT_FILENO, text);
+    if !written {
+        os::fail(b"cannot write the output");
+    }
+    written
+}
+
+// ---- recordings
+
 // Whether a recording's ring or frame memory is too long for the programs.
-pub fn is_bad(ringlength: usize, framelength: usize) -> bool
+fn is_long(ringlength: usize, framelength: usize) -> bool
     ensures { λ r. ⌜ r ≡ badLengths ringlength framelength ⌝ }
 {
     if 4096 < ringlength {
@@ -48,101 +87,80 @@ pub fn is_bad(ringlength: usize, framelength: usize) -> bool
     32768 < framelength
 }
 
-// A little-endian word.
-pub fn word_at(bytes: &[u8], at: usize) -> u32
-    requires { ⌜ at + 4 ≤ length (now bytes) ⌝ }
-    ensures { λ r. ⌜ r ≡ readPixel 4 (now (bytes .entry)) at ⌝ }
+// Word number i of a file.
+fn word_at(file: &[u8], i: usize) -> u32
+    requires { ⌜ 4 * i + 4 ≤ length (now file) ⌝ }
+    ensures { λ r. ⌜ r ≡ fileWord (now (file .entry)) i ⌝ }
 {
-    pixel::get4(bytes, at)
+    pixel::get4(file, 4 * i)
 }
 
-fn part() -> [u8; 1024]
-    ensures { λ r. ⌜ 1024 ≡ length r ⌝ }
-{
-    [0; 1024]
+// A recording's first words: zeros where it is bad.
+pub struct Head {
+    pub bad: bool,
+    pub ringlength: usize,
+    pub framelength: usize,
+    pub write: usize,
+    pub budget: u32,
 }
 
-// Stores n words in the ring, from a position on.
-fn store_words(bytes: &[u8; 1024], ring: &mut [u32], from: usize, n: usize)
-    requires { ⌜ (n ≤ 256) × (from + n ≤ length (now ring)) ⌝ }
+fn bad_head() -> Head
+    ensures { λ r. ⌜ r ≡ record { bad = true; ringlength = 0; framelength = 0; write = 0; budget = 0 } ⌝ }
+{
+    Head {
+        bad: true,
+        ringlength: 0,
+        framelength: 0,
+        write: 0,
+        budget: 0,
+    }
+}
+
+fn head_of(file: &[u8]) -> Head
+    ensures { λ r. ⌜ r ≡ headOf (now (file .entry)) ⌝ }
+{
+    if file.len() < 16 {
+        return bad_head();
+    }
+    let ringlength = word_at(file, 0) as usize;
+    let framelength = word_at(file, 1) as usize;
+    let long = is_long(ringlength, framelength);
+    if long {
+        return bad_head();
+    }
+    if file.len() != 4 * (4 + ringlength) {
+        return bad_head();
+    }
+    let write = word_at(file, 2) as usize;
+    let budget = word_at(file, 3);
+    Head {
+        bad: false,
+        ringlength,
+        framelength,
+        write,
+        budget,
+    }
+}
+
+// Fills a ring with a recording's words.
+fn read_words(file: &[u8], ring: &mut [u32])
+    requires { ⌜ 4 * (4 + length (now ring)) ≤ length (now file) ⌝ }
+    ensures { λ _. ⌜ now (ring .exit) ≡ fileWords (now (file .entry)) 4 (length (now (ring .entry))) ⌝ }
 {
     let mut i = 0;
-    while i < n {
-        let to = from + i;
-        ring[to] = pixel::get4(bytes, 4 * i);
+    while i < ring.len() {
+        ring[i] = word_at(file, 4 + i);
         i += 1;
     }
 }
 
-// Reads n words into the ring, from a position on: false where the input ends before.
-fn read_part(fd: i32, ring: &mut [u32], from: usize, n: usize) -> bool
-    requires { ⌜ (n ≤ 256) × (from + n ≤ length (now ring)) ⌝ }
+fn clear(bytes: &mut [u8])
+    ensures { λ _. ⌜ now (bytes .exit) ≡ replicate (length (now (bytes .entry))) 0 ⌝ }
 {
-    let mut bytes = part();
-    let size = 4 * n;
-    let got = io::read_full(fd, &mut bytes[..size]);
-    if got == size {
-        store_words(&bytes, ring, from, n);
-        return true;
-    }
-    false
-}
-
-fn least(a: usize, b: usize) -> usize
-    ensures { λ r. ⌜ r ≡ min a b ⌝ }
-{
-    if a < b { a } else { b }
-}
-
-// Reads the whole ring: false where the input ends before it, or goes on after it.
-pub fn read_ring(fd: i32, ring: &mut [u32]) -> bool {
-    let mut at = 0;
-    while at < ring.len() {
-        let n = least(256, ring.len() - at);
-        let whole = read_part(fd, ring, at, n);
-        if !whole {
-            return false;
-        }
-        at += n;
-    }
-    is_end(fd)
-}
-
-fn is_end(fd: i32) -> bool {
-    let mut one = [0u8; 1];
-    io::read_full(fd, &mut one) == 0
-}
-
-// ---- calls
-
-// The number of a reply: 0 where the call was accepted.
-pub fn number_of(reply: Reply) -> u32
-    ensures { λ r. ⌜ r ≡ numberOf reply ⌝ }
-{
-    match reply {
-        Reply::Refused(number) => number,
-        Reply::Done { .. } => 0,
-        Reply::Ran { .. } => 0,
-    }
-}
-
-pub fn units_of(reply: Reply) -> u32
-    ensures { λ r. ⌜ r ≡ unitsOf reply ⌝ }
-{
-    match reply {
-        Reply::Refused(_) => 0,
-        Reply::Done { .. } => 0,
-        Reply::Ran { units, .. } => units,
-    }
-}
-
-pub fn room_of(reply: Reply) -> usize
-    ensures { λ r. ⌜ r ≡ roomOf reply ⌝ }
-{
-    match reply {
-        Reply::Refused(_) => 0,
-        Reply::Done { room } => room,
-        Reply::Ran { room, .. } => room,
+    let mut i = 0;
+    while i < bytes.len() {
+        bytes[i] = 0;
+        i += 1;
     }
 }
 
@@ -152,27 +170,43 @@ pub fn replay(ring: &[u32], frame: &mut [u8], write: usize, budget: u32) -> Answ
 {
     let made = engine::setup(ring.len(), frame.len());
     let first = made.reply;
-    let no = number_of(first);
+    let no = text::number_of(first);
     if no != 0 {
         return made;
     }
     let told = engine::publish(made.state, write);
     let second = told.reply;
-    let then = number_of(second);
+    let then = text::number_of(second);
     if then != 0 {
         return told;
     }
     engine::run(ring, told.state, frame, budget)
 }
 
-// What a recording came to: it is bad, or the replay's answer. The answer of a bad one says nothing.
+// How much frame memory there is: none where setup is refused.
+fn frame_size(ringlength: usize, framelength: usize) -> usize
+    ensures { λ r. ⌜ r ≡ frameSize ringlength framelength ⌝ }
+{
+    let made = engine::setup(ringlength, framelength);
+    let reply = made.reply;
+    let no = text::number_of(reply);
+    if no != 0 {
+        return 0;
+    }
+    framelength
+}
+
+// What a recording came to: it is bad, or the replay's answer and how many bytes of frame memory there are.
 pub struct Outcome {
     pub bad: bool,
+    pub frame: usize,
     pub answer: Answer,
 }
 
-// What a bad recording comes to: no call is made.
-fn bad() -> Outcome {
+// The answer that stands beside `bad`: of no call.
+fn no_answer() -> Answer
+    ensures { λ r. ⌜ r ≡ refused (freshState 0 0) 0 ⌝ }
+{
     let registers = [0u32; 17];
     let core = Core {
         registers,
@@ -185,61 +219,72 @@ fn bad() -> Outcome {
     };
     let state = State { core, write: 0 };
     let reply = Reply::Refused(0);
-    let answer = Answer { state, reply };
-    Outcome { bad: true, answer }
+    Answer { state, reply }
+}
+
+// Replays a recording. The file is the first n bytes of a buffer, which becomes frame memory: file, ring and frame memory
+// together would be more than 64 KiB. The ring is the first part of the other buffer.
+pub fn replay_file(memory: &mut [u8], n: usize, ring: &mut [u32]) -> Outcome
+    requires { ⌜ (n ≤ length (now memory)) × (32768 ≤ length (now memory)) × (4096 ≤ length (now ring)) ⌝ }
+    ensures { λ r. ⌜ (r ≡ outcomeOf (take n (now (memory .entry)))) × (r .frame ≤ length (now (memory .exit))) × (take (r .frame) (now (memory .exit)) ≡ frameBytes (take n (now (memory .entry)))) ⌝ }
+{
+    let head = head_of(&memory[..n]);
+    if head.bad {
+        let answer = no_answer();
+        return Outcome {
+            bad: true,
+            frame: 0,
+            answer,
+        };
+    }
+    let ringlength = head.ringlength;
+    let framelength = head.framelength;
+    read_words(&memory[..n], &mut ring[..ringlength]);
+    clear(memory);
+    let answer = replay(
+        &ring[..ringlength],
+        &mut memory[..framelength],
+        head.write,
+        head.budget,
+    );
+    let frame = frame_size(ringlength, framelength);
+    Outcome {
+        bad: false,
+        frame,
+        answer,
+    }
+}
+
+// The lines of a replay, in a buffer of at least 512 bytes, and their length. The file is as `replay_file` has it.
+pub fn replay_text(memory: &mut [u8], n: usize, ring: &mut [u32], out: &mut [u8]) -> usize
+    requires { ⌜ (n ≤ length (now memory)) × (32768 ≤ length (now memory)) × (4096 ≤ length (now ring)) × (512 ≤ length (now out)) ⌝ }
+    ensures { λ r. ⌜ Holds (replayText (take n (now (memory .entry)))) (now (out .exit)) r ⌝ }
+{
+    let outcome = replay_file(memory, n, ring);
+    let answer = outcome.answer;
+    if outcome.bad {
+        return text::bad_line(out);
+    }
+    text::replay_lines(answer, out)
 }
 
 // Buffers for the longest ring and the longest frame memory of a recording.
 pub fn ring_buffer() -> [u32; 4096]
-    ensures { λ r. ⌜ 4096 ≡ length r ⌝ }
+    ensures { λ r. ⌜ r ≡ replicate 4096 0 ⌝ }
 {
     [0; 4096]
 }
 
 pub fn frame_buffer() -> [u8; 32768]
-    ensures { λ r. ⌜ 32768 ≡ length r ⌝ }
+    ensures { λ r. ⌜ r ≡ replicate 32768 0 ⌝ }
 {
     [0; 32768]
 }
 
-// Reads the rest of a recording, the ring, and replays it.
-fn replay_rest(fd: i32, ring: &mut [u32], frame: &mut [u8], write: usize, budget: u32) -> Outcome {
-    let whole = read_ring(fd, ring);
-    if whole {
-        let answer = replay(ring, frame, write, budget);
-        return Outcome { bad: false, answer };
-    }
-    bad()
-}
-
-// Reads a recording and replays it: ring and frame memory are the first parts of the two buffers.
-pub fn replay_from(fd: i32, ring: &mut [u32], frame: &mut [u8]) -> Outcome
-    requires { ⌜ (4096 ≤ length (now ring)) × (32768 ≤ length (now frame)) ⌝ }
-{
-    let mut head = [0u8; 16];
-    let n = io::read_full(fd, &mut head);
-    if n < 16 {
-        return bad();
-    }
-    let ringlength = word_at(&head, 0) as usize;
-    let framelength = word_at(&head, 4) as usize;
-    let write = word_at(&head, 8) as usize;
-    let budget = word_at(&head, 12);
-    let long = is_bad(ringlength, framelength);
-    if long {
-        return bad();
-    }
-    replay_rest(
-        fd,
-        &mut ring[..ringlength],
-        &mut frame[..framelength],
-        write,
-        budget,
-    )
-}
+// ---- traces
 
 // The call that a record of a trace asks for: 1 publish, 2 run, 3 room, else restart.
-pub fn ask(op: u32, a: u32, s: State, ring: &[u32], frame: &mut [u8]) -> Answer
+fn ask(op: u32, a: u32, s: State, ring: &[u32], frame: &mut [u8]) -> Answer
     ensures { λ r. ⌜ (r ≡ asked op a s (now (ring .entry)) (now (frame .entry))) × (now (frame .exit) ≡ askedFrame op a s (now (ring .entry)) (now (frame .entry))) ⌝ }
 {
     if op == 1 {
@@ -254,6 +299,111 @@ pub fn ask(op: u32, a: u32, s: State, ring: &[u32], frame: &mut [u8]) -> Answer
     engine::restart(s)
 }
 
+// What a part of a trace comes to: whether the trace goes on, the state then, and the length of the text that it writes.
+pub struct Step {
+    pub more: bool,
+    pub state: State,
+    pub length: usize,
+}
+
+// A trace that begins badly.
+fn bad_begin(out: &mut [u8]) -> Step
+    requires { ⌜ 512 ≤ length (now out) ⌝ }
+    ensures { λ r. ⌜ (r .more ≡ false) × (r .state ≡ freshState 0 0) × Holds badLine (now (out .exit)) (r .length) ⌝ }
+{
+    let length = text::bad_line(out);
+    let none = no_answer();
+    let state = none.state;
+    Step {
+        more: false,
+        state,
+        length,
+    }
+}
+
+// Setup and its line, from a trace's first two words.
+pub fn trace_begin(head: &[u8], out: &mut [u8]) -> Step
+    requires { ⌜ 512 ≤ length (now out) ⌝ }
+    ensures { λ r. ⌜ Begins (beginOf (now (head .entry))) r (now (out .exit)) ⌝ }
+{
+    if head.len() < 8 {
+        return bad_begin(out);
+    }
+    let ringlength = word_at(head, 0) as usize;
+    let framelength = word_at(head, 1) as usize;
+    let long = is_long(ringlength, framelength);
+    if long {
+        return bad_begin(out);
+    }
+    let made = engine::setup(ringlength, framelength);
+    let length = text::call_line(0, made, out);
+    let state = made.state;
+    let reply = made.reply;
+    let no = text::number_of(reply);
+    Step {
+        more: no == 0,
+        state,
+        length,
+    }
+}
+
+// Whether a record is cut, has an unknown op or stores beyond the ring.
+fn is_bad_record(part: &[u8], ringlength: usize) -> bool
+    ensures { λ r. ⌜ r ≡ badRecord (now (part .entry)) ringlength ⌝ }
+{
+    if part.len() < 12 {
+        return true;
+    }
+    let op = word_at(part, 0);
+    if 4 < op {
+        return true;
+    }
+    let at = word_at(part, 1) as usize;
+    op == 0 && ringlength <= at
+}
+
+// One record: the next 12 bytes of a trace, or fewer where it ends. Its text stands in `out`.
+pub fn trace_step(part: &[u8], s: State, ring: &mut [u32], frame: &mut [u8], out: &mut [u8]) -> Step
+    requires { ⌜ 512 ≤ length (now out) ⌝ }
+    ensures { λ r. ⌜ Steps (stepOf (now (part .entry)) (held s (now (ring .entry)) (now (frame .entry)))) r (now (ring .exit)) (now (frame .exit)) (now (out .exit)) ⌝ }
+{
+    if part.len() == 0 {
+        let length = text::crc_line(crc(frame), out);
+        return Step {
+            more: false,
+            state: s,
+            length,
+        };
+    }
+    let bad = is_bad_record(part, ring.len());
+    if bad {
+        let length = text::bad_line(out);
+        return Step {
+            more: false,
+            state: s,
+            length,
+        };
+    }
+    let op = word_at(part, 0);
+    let a = word_at(part, 1);
+    if op == 0 {
+        let at = a as usize;
+        ring[at] = word_at(part, 2);
+        return Step {
+            more: true,
+            state: s,
+            length: 0,
+        };
+    }
+    let answer = ask(op, a, s, ring, frame);
+    let length = text::call_line(op, answer, out);
+    let state = answer.state;
+    Step {
+        more: true,
+        state,
+        length,
+    }
+}
 // ---- CRC-32, as zip and PNG have it
 
 fn wide(x: u8) -> u32
@@ -294,226 +444,4 @@ pub fn crc(bytes: &[u8]) -> u32
         i += 1;
     }
     c ^ 0xFFFFFFFF
-}
-
-// ---- text
-
-// 512 zeros, for a line of a trace or the lines of a replay.
-pub fn page() -> [u8; 512]
-    ensures { λ r. ⌜ 512 ≡ length r ⌝ }
-{
-    [0; 512]
-}
-
-// Puts a text into a buffer at a place, as much of it as there is room for, and answers the place after it.
-fn put(out: &mut [u8], at: usize, text: &[u8]) -> usize
-    requires { ⌜ at ≤ length (now out) ⌝ }
-    ensures { λ r. ⌜ (r ≤ length (now (out .exit))) × (Put (now (out .entry)) at (now (text .entry)) (now (out .exit)) r) ⌝ }
-{
-    let n = least(text.len(), out.len() - at);
-    let mut i = 0;
-    while i < n {
-        let to = at + i;
-        out[to] = text[i];
-        i += 1;
-    }
-    at + n
-}
-
-// The same of a number's decimal digits.
-fn put_number(out: &mut [u8], at: usize, n: u64) -> usize
-    requires { ⌜ at ≤ length (now out) ⌝ }
-    ensures { λ r. ⌜ r ≤ length (now (out .exit)) ⌝ }
-{
-    let mut digits = [0u8; 20];
-    let k = io::decimal(n, &mut digits);
-    put(out, at, &digits[..k])
-}
-
-// The same of a name, its equals sign and a number.
-fn put_field(out: &mut [u8], at: usize, name: &[u8], n: u64) -> usize
-    requires { ⌜ at ≤ length (now out) ⌝ }
-    ensures { λ r. ⌜ r ≤ length (now (out .exit)) ⌝ }
-{
-    let to = put(out, at, name);
-    put_number(out, to, n)
-}
-
-// The same of two of them.
-fn put_two(out: &mut [u8], at: usize, name: &[u8], n: u64, other: &[u8], m: u64) -> usize
-    requires { ⌜ at ≤ length (now out) ⌝ }
-    ensures { λ r. ⌜ r ≤ length (now (out .exit)) ⌝ }
-{
-    let to = put_field(out, at, name, n);
-    put_field(out, to, other, m)
-}
-
-fn long(n: usize) -> u64 {
-    n as u64
-}
-
-fn longer(n: u32) -> u64 {
-    n as u64
-}
-
-fn put_word(out: &mut [u8], at: usize, word: RunWord) -> usize
-    requires { ⌜ at ≤ length (now out) ⌝ }
-    ensures { λ r. ⌜ r ≤ length (now (out .exit)) ⌝ }
-{
-    match word {
-        RunWord::Stopped => put(out, at, b"stopped"),
-        RunWord::Waiting => put(out, at, b"waiting"),
-        RunWord::Spent => put(out, at, b"spent"),
-    }
-}
-
-// ---- the replay's lines
-
-// The name of the state that a replay ends in. Its last call is a run, so a call that is only accepted never ends it.
-fn put_state(out: &mut [u8], at: usize, reply: Reply) -> usize
-    requires { ⌜ at ≤ length (now out) ⌝ }
-    ensures { λ r. ⌜ r ≤ length (now (out .exit)) ⌝ }
-{
-    match reply {
-        Reply::Refused(_) => put(out, at, b"refused"),
-        Reply::Done { .. } => put(out, at, b"waiting"),
-        Reply::Ran { word, .. } => put_word(out, at, word),
-    }
-}
-
-// The number that refused or stopped, or 0.
-fn last_number(reply: Reply, stop: u32) -> u32
-    ensures { λ r. ⌜ r ≡ lastNumber reply stop ⌝ }
-{
-    match reply {
-        Reply::Refused(no) => no,
-        Reply::Done { .. } => 0,
-        Reply::Ran { .. } => stop,
-    }
-}
-
-// Puts the last two lines.
-fn put_end(out: &mut [u8], at: usize, reply: Reply, stop: u32) -> usize
-    requires { ⌜ at ≤ length (now out) ⌝ }
-    ensures { λ r. ⌜ r ≤ length (now (out .exit)) ⌝ }
-{
-    let no = last_number(reply, stop);
-    let name = put(out, at, b"\nstate=");
-    let state = put_state(out, name, reply);
-    let refusal = put_field(out, state, b"\nrefusal=", longer(no));
-    put(out, refusal, b"\n")
-}
-
-// Puts the six lines of a replay that ended with an answer into a buffer, and answers their length.
-pub fn replay_lines(a: Answer, out: &mut [u8]) -> usize
-    ensures { λ r. ⌜ Counts r (now (out .exit)) ⌝ }
-{
-    let s = a.state;
-    let c = s.core;
-    let reply = a.reply;
-    let retired = longer(c.completion);
-    let units = longer(units_of(reply));
-    let done = put_two(out, 0, b"retired=", retired, b"\nunits=", units);
-    let read = long(c.read);
-    let write = long(s.write);
-    let pointers = put_two(out, done, b"\nread=", read, b"\nwrite=", write);
-    put_end(out, pointers, reply, c.stop)
-}
-
-// ---- the trace's lines
-
-fn put_call(out: &mut [u8], at: usize, op: u32) -> usize
-    requires { ⌜ at ≤ length (now out) ⌝ }
-    ensures { λ r. ⌜ r ≤ length (now (out .exit)) ⌝ }
-{
-    match op {
-        1 => put(out, at, b"publish"),
-        2 => put(out, at, b"run"),
-        3 => put(out, at, b"room"),
-        4 => put(out, at, b"restart"),
-        _ => put(out, at, b"setup"),
-    }
-}
-
-fn put_answer(out: &mut [u8], at: usize, reply: Reply) -> usize
-    requires { ⌜ at ≤ length (now out) ⌝ }
-    ensures { λ r. ⌜ r ≤ length (now (out .exit)) ⌝ }
-{
-    match reply {
-        Reply::Refused(number) => put_field(out, at, b"refused-", longer(number)),
-        Reply::Done { .. } => put(out, at, b"0"),
-        Reply::Ran { word, .. } => put_word(out, at, word),
-    }
-}
-
-fn put_drawing(out: &mut [u8], at: usize, place: Place) -> usize
-    requires { ⌜ at ≤ length (now out) ⌝ }
-    ensures { λ r. ⌜ r ≤ length (now (out .exit)) ⌝ }
-{
-    match place {
-        Place::Idle => put(out, at, b"none"),
-        Place::Drawing(kind, k) => put_drawn(out, at, kind, k),
-    }
-}
-
-fn put_drawn(out: &mut [u8], at: usize, kind: Kind, k: usize) -> usize
-    requires { ⌜ at ≤ length (now out) ⌝ }
-    ensures { λ r. ⌜ r ≤ length (now (out .exit)) ⌝ }
-{
-    match kind {
-        Kind::Blt => put_field(out, at, b"blt-", long(k)),
-        Kind::Vector => put_field(out, at, b"vector-", long(k)),
-    }
-}
-
-// Puts the call and its answer.
-fn put_asked(out: &mut [u8], at: usize, op: u32, reply: Reply) -> usize
-    requires { ⌜ at ≤ length (now out) ⌝ }
-    ensures { λ r. ⌜ r ≤ length (now (out .exit)) ⌝ }
-{
-    let name = put(out, at, b"call=");
-    let call = put_call(out, name, op);
-    let answer = put(out, call, b" answer=");
-    put_answer(out, answer, reply)
-}
-
-// Puts the fields of the state that a call hands back.
-fn put_core(out: &mut [u8], at: usize, c: Core, write: usize) -> usize
-    requires { ⌜ at ≤ length (now out) ⌝ }
-    ensures { λ r. ⌜ r ≤ length (now (out .exit)) ⌝ }
-{
-    let place = c.place;
-    let read = long(c.read);
-    let pointers = put_two(out, at, b" read=", read, b" write=", long(write));
-    let retired = longer(c.completion);
-    let stop = longer(c.stop);
-    let numbers = put_two(out, pointers, b" retired=", retired, b" stop=", stop);
-    let name = put(out, numbers, b" drawing=");
-    put_drawing(out, name, place)
-}
-
-// Puts the line of a call and its answer into a buffer, and answers its length. The call is setup where the op is 0.
-pub fn trace_line(op: u32, a: Answer, out: &mut [u8]) -> usize
-    ensures { λ r. ⌜ Counts r (now (out .exit)) ⌝ }
-{
-    let s = a.state;
-    let c = s.core;
-    let reply = a.reply;
-    let units = longer(units_of(reply));
-    let room = long(room_of(reply));
-    let asked = put_asked(out, 0, op, reply);
-    let used = put_two(out, asked, b" units=", units, b" room=", room);
-    let state = put_core(out, used, c, s.write);
-    put(out, state, b"\n")
-}
-
-// Puts the trace's last line into a buffer, and answers its length.
-pub fn crc_line(crc: u32, out: &mut [u8]) -> usize
-    ensures { λ r. ⌜ Counts r (now (out .exit)) ⌝ }
-{
-    let mut digits = [0u8; 16];
-    let k = io::hex(longer(crc), 8, &mut digits);
-    let name = put(out, 0, b"frame_crc32=");
-    let text = put(out, name, &digits[..k]);
-    put(out, text, b"\n")
 }

@@ -83,16 +83,16 @@ placeName (Drawing Blt k) = ascii "blt-" ++ decimal k
 placeName (Drawing Vector k) = ascii "vector-" ++ decimal k
 
 -- a call and what it answers
-unfoldable pub asked : ℕ → Reply → List ℕ
-asked op reply =
+unfoldable pub askedItems : ℕ → Reply → List ℕ
+askedItems op reply =
     item "call" (callName op)
     ++ item "answer" (answerName reply)
     ++ item "units" (decimal (unitsOf reply))
     ++ item "room" (decimal (roomOf reply))
 
 -- the state that it hands back
-unfoldable pub handed : State → List ℕ
-handed s =
+unfoldable pub stateItems : State → List ℕ
+stateItems s =
     item "read" (decimal (s .core .read))
     ++ item "write" (decimal (s .write))
     ++ item "retired" (decimal (s .core .completion))
@@ -101,7 +101,7 @@ handed s =
 
 -- the line of a call
 unfoldable pub callLine : ℕ → Answer → List ℕ
-callLine op a = asked op (a .reply) ++ handed (a .state)
+callLine op a = askedItems op (a .reply) ++ stateItems (a .state)
 
 -- the last line: a checksum of frame memory
 abbrev pub crcLine : ℕ → List ℕ

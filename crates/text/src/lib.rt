@@ -6,7 +6,7 @@ ghost use lib.ListN.{length};
 ghost use Rattle.model.specs.Calls.{numberOf, unitsOf, roomOf};
 ghost use Rattle.text.specs.Ascii.{ascii};
 ghost use Rattle.text.specs.Numerals.{decimal, hexadecimal};
-ghost use Rattle.text.specs.Lines.{line, runName, stateName, lastNumber, replayLines, badLine, item, callName, answerName, placeName, asked, handed, callLine, crcLine};
+ghost use Rattle.text.specs.Lines.{line, runName, stateName, lastNumber, replayLines, badLine, item, callName, answerName, placeName, askedItems, stateItems, callLine, crcLine};
 ghost use Rattle.text.specs.Buffers.{Put, Holds};
 use model::Answer;
 use model::Kind;
@@ -274,7 +274,7 @@ fn put_drawing(out: &mut [u8], at: usize, place: Place) -> usize
 // A call and what it answers.
 fn put_asked(out: &mut [u8], op: u32, reply: Reply) -> usize
     requires { ⌜ 102 ≤ length (now out) ⌝ }
-    ensures { λ r. ⌜ Put (now (out .entry)) 0 (asked op reply) 102 (now (out .exit)) r ⌝ }
+    ensures { λ r. ⌜ Put (now (out .entry)) 0 (askedItems op reply) 102 (now (out .exit)) r ⌝ }
 {
     let units = longer(units_of(reply));
     let room = long(room_of(reply));
@@ -299,7 +299,7 @@ fn put_numbers(out: &mut [u8], at: usize, s: State) -> usize
 // The state that a call hands back.
 fn put_handed(out: &mut [u8], at: usize, s: State) -> usize
     requires { ⌜ at + 144 ≤ length (now out) ⌝ }
-    ensures { λ r. ⌜ Put (now (out .entry)) at (handed s) 144 (now (out .exit)) r ⌝ }
+    ensures { λ r. ⌜ Put (now (out .entry)) at (stateItems s) 144 (now (out .exit)) r ⌝ }
 {
     let c = s.core;
     let place = c.place;

@@ -1,5 +1,5 @@
 use Rattle.text.specs.Buffers.{put-then}
-use Rattle.text.specs.Lines.{asked}
+use Rattle.text.specs.Lines.{askedItems}
 use mathlib.Core.Path.{_∙_}
 use borrow.Author.Needs.{needs}
 use Rattle.text.proofs.put_asked.Statement.{statement}
@@ -68,7 +68,7 @@ same-length c = search needs
 
 -- src/lib.rt:266:1
 returns : tie.Need-returns
-unfolding asked
+unfolding askedItems
 returns c = rw (c .before .before .before .before .before .before .before .before .before .before .before .before .before .before .before .before .before .before .before .before .before .before .longer .ensures, c .before .before .before .before .before .before .before .before .before .before .before .before .before .before .before .before .before .before .before .before .before .before .before .units-of .ensures, c .before .before .before .before .before .before .before .before .before .before .before .before .before .before .before .before .before .before .before .before .long .ensures, c .before .before .before .before .before .before .before .before .before .before .before .before .before .before .before .before .before .before .before .before .before .room-of .ensures) at (put-then (put-then (put-then (c .before .before .before .before .before .before .before .before .before .before .before .before .before .before .before .before .before .before .put-called .ensures) (c .before .before .before .before .before .before .before .before .before .before .before .before .before .before .put-answered .ensures)) (c .before .before .before .before .before .before .before .before .put-field .ensures)) (c .before .before .put-field2 .ensures))
 
 pub put-asked-spec : {M : Type 1} → statement M

@@ -1,5 +1,5 @@
 use Rattle.text.specs.Buffers.{put-then}
-use Rattle.text.specs.Lines.{handed}
+use Rattle.text.specs.Lines.{stateItems}
 use borrow.Author.Needs.{needs}
 use Rattle.text.proofs.put_handed.Statement.{statement}
 use Rattle.text.proofs.put_handed.Tie as tie
@@ -22,7 +22,7 @@ same-length c = search needs
 
 -- src/lib.rt:300:1
 returns : tie.Need-returns
-unfolding handed
+unfolding stateItems
 returns c = put-then (c .before .before .before .before .before .before .put-numbers .ensures) (c .before .before .put-drawing .ensures)
 
 pub put-handed-spec : {M : Type 1} → statement M
