@@ -1,10 +1,10 @@
 -- A recording in a buffer that becomes frame memory.
-use Prim.Native.Nat.{ℕ, _+_, _-_, _≤_}
+use Prim.Native.Nat.{ℕ, _≤_}
 use mathlib.Core.Path.{_≡_, refl, sym, ap, _∙_}
 use mathlib.Core.Bool.{Bool, true, false}
 use mathlib.Core.List.{List, [], _++_}
 use native.Mathlib.Omega.{arith}
-use lib.ListN.{length, take, replicate, length-take, length-append, length-replicate, replicate-append-replicate}
+use lib.ListN.{length, take, replicate, length-append}
 use lib.Seq.{take-at}
 use Rattle.model.specs.Choice.{_=?_, if_then_else_, not-both}
 use Rattle.model.specs.Calls.{numberOf, setup, refused, freshState}
@@ -13,17 +13,6 @@ use Rattle.recording.specs.Replay.{replay, replayFrame}
 use Rattle.recording.specs.Recording.{badRecording, ringlengthOf, framelengthOf, writeOf, budgetOf, ringOf, frameSize, headOf, replayed, replayedFrame, outcomeOf, frameBytes, Good, good, bad-head}
 use Rattle.recording.specs.declared.Head.{Head}
 use Rattle.recording.specs.declared.Outcome.{Outcome}
-
--- a part from the start has the length that it is given
-pub part-length : (n : ℕ) (xs : List ℕ) → n ≤ length xs → n ≡ length (take n xs)
-part-length n xs h = omega (arith, length-take n xs)
-
--- the start of zeros
-pub take-zeros : (n m : ℕ) → n ≤ m → take {A = ℕ} n (replicate m 0) ≡ replicate n 0
-take-zeros n m h =
-    let e : m ≡ n + (m - n) = omega arith in
-    ap (λ (k : ℕ). take {A = ℕ} n (replicate k 0)) e ∙ ap (take n) (sym (replicate-append-replicate n (m - n) 0))
-    ∙ take-at (replicate n 0) (replicate (m - n) 0) n (length-replicate n 0)
 
 -- ---- a file whose head is not bad
 

@@ -1,3 +1,4 @@
+use Rattle.recording.specs.Parts.{part-length, take-zeros}
 use Prim.Native.Nat.{ℕ}
 use mathlib.Core.Path.{_≡_, refl, sym, ap, _∙_}
 use native.Mathlib.Omega.{arith}
@@ -6,7 +7,7 @@ use lib.ListN.{length, take, drop, replicate, length-take, length-append, length
 use lib.Seq.{take-at}
 use Rattle.recording.specs.Recording.{fileWords, length-words, outcomeOf, frameBytes, replayed, replayedFrame}
 use Rattle.recording.specs.declared.Head.{Head}
-use Rattle.recording.proofs.Files.{part-length, take-zeros, fine-file, good-file, head-words, replayed-is, replayed-frame, file-outcome, bad-file, bad-outcome}
+use Rattle.recording.proofs.Files.{fine-file, good-file, head-words, replayed-is, replayed-frame, file-outcome, bad-file, bad-outcome}
 use borrow.Author.Needs.{needs}
 use Rattle.recording.proofs.replay_file.Statement.{statement}
 use Rattle.recording.proofs.replay_file.Tie as tie
