@@ -2,24 +2,16 @@ use borrow.Author.Tests.{eq-eqb, ne-eqb}
 use borrow.Author.Needs.{needs}
 use Rattle.recording.proofs.frame_size.Statement.{statement}
 use Rattle.recording.proofs.frame_size.Tie as tie
-use Rattle.recording.proofs.frame_size.Reads as reads
-use Rattle.recording.proofs.frame_size.Lts as lts
-use Rattle.engine.proofs.setup.Reads as setup-reads
-use Rattle.text.proofs.number_of.Reads as number-of-reads
 
--- src/lib.rt:190:9
 setup-requires : tie.Need-setup-requires
 setup-requires c κs = search needs
 
--- src/lib.rt:192:9
 number-of-requires : tie.Need-number-of-requires
 number-of-requires c κs = search needs
 
--- src/lib.rt:194:9
 returns : tie.Need-returns
 returns c = rw (← c .before .before .setup .ensures, ← c .before .number-of .ensures, ne-eqb _ _ (c .if1 .taken))
 
--- src/lib.rt:187:1
 returns-2 : tie.Need-returns-2
 returns-2 c = rw (← c .before .before .setup .ensures, ← c .before .number-of .ensures, eq-eqb _ _ (c .if1 .left))
 

@@ -5,77 +5,55 @@ use Rattle.recording.specs.Recording.{long-bad, size-bad, short-bad, not
 use borrow.Author.Needs.{needs}
 use Rattle.recording.proofs.head_of.Statement.{statement}
 use Rattle.recording.proofs.head_of.Tie as tie
-use Rattle.recording.proofs.head_of.Reads as reads
-use Rattle.recording.proofs.head_of.Lts as lts
-use Rattle.recording.proofs.bad_head.Reads as bad-head-reads
-use Rattle.recording.proofs.is_long.Reads as is-long-reads
-use Rattle.recording.proofs.word_at.Reads as word-at-reads
 
--- src/lib.rt:123:9
 bad-head-requires : tie.Need-bad-head-requires
 bad-head-requires c κs = search needs
 
--- src/lib.rt:123:9
 returns : tie.Need-returns
 returns c = c .bad-head .ensures ∙ sym (bad-head _ (short-bad (now (c .before .before .before .args .file)) (omega arith)))
 
--- src/lib.rt:125:22
 word-at-requires : tie.Need-word-at-requires
 word-at-requires c κs = search needs
 
--- src/lib.rt:125:22
 cast-ringlength : tie.Need-cast-ringlength
 cast-ringlength c = search needs
 
--- src/lib.rt:126:23
 word-at-requires-2 : tie.Need-word-at-requires-2
 word-at-requires-2 c κs = search needs
 
--- src/lib.rt:126:23
 cast-framelength : tie.Need-cast-framelength
 cast-framelength c = search needs
 
--- src/lib.rt:127:9
 is-long-requires : tie.Need-is-long-requires
 is-long-requires c κs = search needs
 
--- src/lib.rt:129:9
 bad-head-requires-2 : tie.Need-bad-head-requires-2
 bad-head-requires-2 c κs = search needs
 
--- src/lib.rt:129:9
 returns-2 : tie.Need-returns-2
 returns-2 c = c .bad-head2 .ensures ∙ sym (bad-head _ (long-bad (now (c .before .before .before .before .before .before .before .args .file)) (rw (c .before .before .before .before .word-at .ensures, c .before .before .before .word-at2 .ensures) at (sym (c .before .before .is-long .ensures) ∙ c .before .if2 .taken))))
 
--- src/lib.rt:131:27
 add-if3 : tie.Need-add-if3
 add-if3 c = search needs
 
--- src/lib.rt:131:22
 mul-if3 : tie.Need-mul-if3
 mul-if3 c = search needs
 
--- src/lib.rt:132:9
 bad-head-requires-3 : tie.Need-bad-head-requires-3
 bad-head-requires-3 c κs = search needs
 
--- src/lib.rt:132:9
 returns-3 : tie.Need-returns-3
 returns-3 c = c .bad-head3 .ensures ∙ sym (bad-head _ (size-bad (now (c .before .before .before .before .before .before .before .before .args .file)) (rw (c .before .before .before .before .before .word-at .ensures) at (c .before .if3 .taken))))
 
--- src/lib.rt:134:17
 word-at-requires-3 : tie.Need-word-at-requires-3
 word-at-requires-3 c κs = search needs
 
--- src/lib.rt:134:17
 cast-write : tie.Need-cast-write
 cast-write c = search needs
 
--- src/lib.rt:135:9
 word-at-requires-4 : tie.Need-word-at-requires-4
 word-at-requires-4 c κs = search needs
 
--- src/lib.rt:119:1
 returns-4 : tie.Need-returns-4
 returns-4 c =
     let file = now (c .before .before .before .before .before .before .before .before .before .args .file) in

@@ -2,35 +2,25 @@ use borrow.Author.Tests.{lt-ltb, le-ltb, eq-eqb, ne-eqb}
 use borrow.Author.Needs.{needs}
 use Rattle.recording.proofs.is_bad_record.Statement.{statement}
 use Rattle.recording.proofs.is_bad_record.Tie as tie
-use Rattle.recording.proofs.is_bad_record.Reads as reads
-use Rattle.recording.proofs.is_bad_record.Lts as lts
-use Rattle.recording.proofs.word_at.Reads as word-at-reads
 
--- src/lib.rt:355:9
 returns : tie.Need-returns
 returns c = rw (lt-ltb _ _ (c .if1 .taken))
 
--- src/lib.rt:357:9
 word-at-requires : tie.Need-word-at-requires
 word-at-requires c κs = search needs
 
--- src/lib.rt:359:9
 returns-2 : tie.Need-returns-2
 returns-2 c = rw (le-ltb _ _ (c .before .before .if1 .left), ← c .before .word-at .ensures, lt-ltb _ _ (c .if2 .taken))
 
--- src/lib.rt:361:14
 word-at-requires-2 : tie.Need-word-at-requires-2
 word-at-requires-2 c κs = search needs
 
--- src/lib.rt:361:14
 cast-at : tie.Need-cast-at
 cast-at c = search needs
 
--- src/lib.rt:351:1
 returns-3 : tie.Need-returns-3
 returns-3 c = rw (le-ltb _ _ (c .before .before .before .before .if1 .left), ← c .before .before .before .word-at .ensures, le-ltb _ _ (c .before .before .if2 .left), eq-eqb _ _ (c .if3 .taken), ← c .before .word-at2 .ensures)
 
--- src/lib.rt:351:1
 returns-4 : tie.Need-returns-4
 returns-4 c = rw (le-ltb _ _ (c .before .before .before .before .if1 .left), ← c .before .before .before .word-at .ensures, le-ltb _ _ (c .before .before .if2 .left), ne-eqb _ _ (c .if3 .left))
 

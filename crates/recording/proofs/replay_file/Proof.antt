@@ -11,50 +11,33 @@ use Rattle.recording.proofs.Files.{fine-file, good-file, head-words, re
 use borrow.Author.Needs.{needs}
 use Rattle.recording.proofs.replay_file.Statement.{statement}
 use Rattle.recording.proofs.replay_file.Tie as tie
-use Rattle.recording.proofs.replay_file.Reads as reads
-use Rattle.recording.proofs.replay_file.Lts as lts
-use Rattle.recording.proofs.clear.Reads as clear-reads
-use Rattle.recording.proofs.frame_size.Reads as frame-size-reads
-use Rattle.recording.proofs.head_of.Reads as head-of-reads
-use Rattle.recording.proofs.no_answer.Reads as no-answer-reads
-use Rattle.recording.proofs.read_words.Reads as read-words-reads
-use Rattle.recording.proofs.replay.Reads as replay-reads
 
--- src/lib.rt:231:24
 slice-reshare-prefix-head-of : tie.Need-slice-reshare-prefix-head-of
 slice-reshare-prefix-head-of c = search needs
 
--- src/lib.rt:231:24
 slice-aggregate-head-of : tie.Need-slice-aggregate-head-of
 slice-aggregate-head-of c = part-length (c .before .before .before .args .n) (now (c .before .before .before .args .memory)) (c .before .before .before .pre .0)
 
--- src/lib.rt:231:9
 head-of-requires : tie.Need-head-of-requires
 head-of-requires c κs = search needs
 
--- src/lib.rt:233:13
 no-answer-requires : tie.Need-no-answer-requires
 no-answer-requires c κs = search needs
 
--- src/lib.rt:234:9
 same-length : tie.Need-same-length
 same-length c = search needs
 
--- src/lib.rt:234:9
 returns : tie.Need-returns
 returns c =
     let file = take (c .before .before .before .before .before .before .args .n) (now (c .before .before .before .before .before .before .args .memory)) in
     bad-outcome file (c .no-answer .result) (bad-file file (c .before .before .head-of .result) (c .before .before .head-of .ensures) (c .before .if1 .taken)) (c .no-answer .ensures)
 
--- src/lib.rt:242:16
 slice-reshare-prefix-read-words : tie.Need-slice-reshare-prefix-read-words
 slice-reshare-prefix-read-words c = search needs
 
--- src/lib.rt:242:16
 slice-aggregate-read-words : tie.Need-slice-aggregate-read-words
 slice-aggregate-read-words c = part-length (c .before .before .before .before .before .before .args .n) (now (c .before .before .before .before .before .before .args .memory)) (c .before .before .before .before .before .before .pre .0)
 
--- src/lib.rt:242:30
 slice-relend-prefix-read-words : tie.Need-slice-relend-prefix-read-words
 slice-relend-prefix-read-words c =
     let file = take (c .before .before .before .before .before .before .args .n) (now (c .before .before .before .before .before .before .args .memory)) in
@@ -64,7 +47,6 @@ slice-relend-prefix-read-words c =
     let framelength = ap (λ (h : Head). h .framelength) w in
     omega (arith, g .ring-most, c .before .before .before .before .before .before .pre .2)
 
--- src/lib.rt:242:30
 slice-aggregate-read-words-2 : tie.Need-slice-aggregate-read-words-2
 slice-aggregate-read-words-2 c =
     let file = take (c .before .before .before .before .before .before .before .args .n) (now (c .before .before .before .before .before .before .before .args .memory)) in
@@ -74,7 +56,6 @@ slice-aggregate-read-words-2 c =
     let framelength = ap (λ (h : Head). h .framelength) w in
     part-length _ _ (omega (arith, g .ring-most, c .before .before .before .before .before .before .before .pre .2))
 
--- src/lib.rt:242:5
 read-words-requires : tie.Need-read-words-requires
 read-words-requires c κs =
     let file = take (c .before .before .before .before .before .before .before .args .n) (now (c .before .before .before .before .before .before .before .args .memory)) in
@@ -84,11 +65,9 @@ read-words-requires c κs =
     let framelength = ap (λ (h : Head). h .framelength) w in
     omega (arith, g .length-is, length-take (c .before .before .before .head-of .result .ringlength) (now (c .before .before .before .before .before .before .before .args .ring)))
 
--- src/lib.rt:243:5
 clear-requires : tie.Need-clear-requires
 clear-requires c κs = search needs
 
--- src/lib.rt:245:9
 slice-reshare-prefix-replay : tie.Need-slice-reshare-prefix-replay
 slice-reshare-prefix-replay c =
     let file = take (c .before .before .before .before .before .before .before .before .before .before .before .before .before .before .args .n) (now (c .before .before .before .before .before .before .before .before .before .before .before .before .before .before .args .memory)) in
@@ -101,7 +80,6 @@ slice-reshare-prefix-replay c =
     let size : length (c .before .before .before .before .before .before .read-words .last .1 .0) ≡ c .before .before .before .before .before .before .before .before .before .before .head-of .result .ringlength = ap length words ∙ length-words file (c .before .before .before .before .before .before .before .before .before .before .head-of .result .ringlength) 4 in
     omega (arith, length-append (c .before .before .before .before .before .before .read-words .last .1 .0) (drop (c .before .before .before .before .before .before .before .before .before .before .head-of .result .ringlength) (now (c .before .before .before .before .before .before .before .before .before .before .before .before .before .before .args .ring))))
 
--- src/lib.rt:245:9
 slice-aggregate-replay : tie.Need-slice-aggregate-replay
 slice-aggregate-replay c =
     let file = take (c .before .before .before .before .before .before .before .before .before .before .before .before .before .before .before .args .n) (now (c .before .before .before .before .before .before .before .before .before .before .before .before .before .before .before .args .memory)) in
@@ -114,7 +92,6 @@ slice-aggregate-replay c =
     let size : length (c .before .before .before .before .before .before .before .read-words .last .1 .0) ≡ c .before .before .before .before .before .before .before .before .before .before .before .head-of .result .ringlength = ap length words ∙ length-words file (c .before .before .before .before .before .before .before .before .before .before .before .head-of .result .ringlength) 4 in
     sym (ap length (take-at (c .before .before .before .before .before .before .before .read-words .last .1 .0) (drop (c .before .before .before .before .before .before .before .before .before .before .before .head-of .result .ringlength) (now (c .before .before .before .before .before .before .before .before .before .before .before .before .before .before .before .args .ring))) (c .before .before .before .before .before .before .before .before .before .before .before .head-of .result .ringlength) size) ∙ size)
 
--- src/lib.rt:246:9
 slice-relend-prefix-replay : tie.Need-slice-relend-prefix-replay
 slice-relend-prefix-replay c =
     let file = take (c .before .before .before .before .before .before .before .before .before .before .before .before .before .before .before .args .n) (now (c .before .before .before .before .before .before .before .before .before .before .before .before .before .before .before .args .memory)) in
@@ -124,7 +101,6 @@ slice-relend-prefix-replay c =
     let framelength = ap (λ (h : Head). h .framelength) w in
     omega (arith, g .frame-most, c .before .before .before .before .before .before .before .before .before .before .before .before .before .before .before .pre .1, ap length (c .before .before .before .clear .ensures), length-replicate {A = ℕ} (length (now (c .before .before .before .before .before .before .before .before .before .before .before .before .before .before .before .args .memory))) 0)
 
--- src/lib.rt:246:9
 slice-aggregate-replay-2 : tie.Need-slice-aggregate-replay-2
 slice-aggregate-replay-2 c =
     let file = take (c .before .before .before .before .before .before .before .before .before .before .before .before .before .before .before .before .args .n) (now (c .before .before .before .before .before .before .before .before .before .before .before .before .before .before .before .before .args .memory)) in
@@ -134,23 +110,18 @@ slice-aggregate-replay-2 c =
     let framelength = ap (λ (h : Head). h .framelength) w in
     part-length _ (c .before .before .before .before .clear .last .0) (omega (arith, g .frame-most, c .before .before .before .before .before .before .before .before .before .before .before .before .before .before .before .before .pre .1, ap length (c .before .before .before .before .clear .ensures), length-replicate {A = ℕ} (length (now (c .before .before .before .before .before .before .before .before .before .before .before .before .before .before .before .before .args .memory))) 0))
 
--- src/lib.rt:244:9
 replay-requires : tie.Need-replay-requires
 replay-requires c κs = search needs
 
--- src/lib.rt:250:9
 frame-size-requires : tie.Need-frame-size-requires
 frame-size-requires c κs = search needs
 
--- src/lib.rt:227:1
 same-length-2 : tie.Need-same-length-2
 same-length-2 c = search needs
 
--- src/lib.rt:227:1
 same-length-3 : tie.Need-same-length-3
 same-length-3 c = search needs
 
--- src/lib.rt:227:1
 returns-2 : tie.Need-returns-2
 returns-2 c =
     let file = take (c .before .before .before .before .before .before .before .before .before .before .before .before .before .before .before .before .before .before .before .before .args .n) (now (c .before .before .before .before .before .before .before .before .before .before .before .before .before .before .before .before .before .before .before .before .args .memory)) in

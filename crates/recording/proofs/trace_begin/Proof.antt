@@ -11,56 +11,37 @@ use Rattle.recording.specs.Trace.{begin-bad, begin-good}
 use borrow.Author.Needs.{needs}
 use Rattle.recording.proofs.trace_begin.Statement.{statement}
 use Rattle.recording.proofs.trace_begin.Tie as tie
-use Rattle.recording.proofs.trace_begin.Reads as reads
-use Rattle.recording.proofs.trace_begin.Lts as lts
-use Rattle.engine.proofs.setup.Reads as setup-reads
-use Rattle.recording.proofs.bad_begin.Reads as bad-begin-reads
-use Rattle.recording.proofs.is_long.Reads as is-long-reads
-use Rattle.recording.proofs.word_at.Reads as word-at-reads
-use Rattle.text.proofs.call_line.Reads as call-line-reads
-use Rattle.text.proofs.number_of.Reads as number-of-reads
 
--- src/lib.rt:330:9
 bad-begin-requires : tie.Need-bad-begin-requires
 bad-begin-requires c κs = search needs
 
--- src/lib.rt:330:9
 same-length : tie.Need-same-length
 same-length c = search needs
 
--- src/lib.rt:330:9
 returns : tie.Need-returns
 returns c = rw (begin-bad (now (c .before .before .before .before .before .before .before .args .head)) (or-left _ _ (lt-ltb _ _ (c .before .before .before .before .if1 .taken)))) (record { more-is = c .before .before .bad-begin .ensures .0; state-is = c .before .before .bad-begin .ensures .1; text-is = c .before .before .bad-begin .ensures .2 })
 
--- src/lib.rt:332:22
 word-at-requires : tie.Need-word-at-requires
 word-at-requires c κs = search needs
 
--- src/lib.rt:332:22
 cast-ringlength : tie.Need-cast-ringlength
 cast-ringlength c = search needs
 
--- src/lib.rt:333:23
 word-at-requires-2 : tie.Need-word-at-requires-2
 word-at-requires-2 c κs = search needs
 
--- src/lib.rt:333:23
 cast-framelength : tie.Need-cast-framelength
 cast-framelength c = search needs
 
--- src/lib.rt:334:9
 is-long-requires : tie.Need-is-long-requires
 is-long-requires c κs = search needs
 
--- src/lib.rt:336:9
 bad-begin-requires-2 : tie.Need-bad-begin-requires-2
 bad-begin-requires-2 c κs = search needs
 
--- src/lib.rt:336:9
 same-length-2 : tie.Need-same-length-2
 same-length-2 c = search needs
 
--- src/lib.rt:336:9
 returns-2 : tie.Need-returns-2
 returns-2 c =
     let head = now (c .before .before .before .before .before .before .before .before .before .before .before .args .head) in
@@ -68,23 +49,18 @@ returns-2 c =
     rw (begin-bad head (or-right (length head <? 8) (badLengths (fileWord head 0) (fileWord head 1)) e))
     (record { more-is = c .before .before .bad-begin2 .ensures .0; state-is = c .before .before .bad-begin2 .ensures .1; text-is = c .before .before .bad-begin2 .ensures .2 })
 
--- src/lib.rt:338:9
 setup-requires : tie.Need-setup-requires
 setup-requires c κs = search needs
 
--- src/lib.rt:339:9
 call-line-requires : tie.Need-call-line-requires
 call-line-requires c κs = search needs
 
--- src/lib.rt:342:9
 number-of-requires : tie.Need-number-of-requires
 number-of-requires c κs = search needs
 
--- src/lib.rt:325:1
 same-length-3 : tie.Need-same-length-3
 same-length-3 c = search needs
 
--- src/lib.rt:325:1
 returns-3 : tie.Need-returns-3
 returns-3 c =
     let head = now (c .before .before .before .before .before .before .before .before .before .before .before .before .before .before .args .head) in

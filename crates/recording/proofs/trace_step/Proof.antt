@@ -6,107 +6,75 @@ use Rattle.recording.specs.Trace.{held, step-end, step-bad, step-store, 
 use borrow.Author.Needs.{needs}
 use Rattle.recording.proofs.trace_step.Statement.{statement}
 use Rattle.recording.proofs.trace_step.Tie as tie
-use Rattle.recording.proofs.trace_step.Reads as reads
-use Rattle.recording.proofs.trace_step.Lts as lts
-use Rattle.recording.proofs.ask.Reads as ask-reads
-use Rattle.recording.proofs.crc.Reads as crc-reads
-use Rattle.recording.proofs.is_bad_record.Reads as is-bad-record-reads
-use Rattle.recording.proofs.word_at.Reads as word-at-reads
-use Rattle.text.proofs.bad_line.Reads as bad-line-reads
-use Rattle.text.proofs.call_line.Reads as call-line-reads
-use Rattle.text.proofs.crc_line.Reads as crc-line-reads
 
--- src/lib.rt:371:37
 crc-requires : tie.Need-crc-requires
 crc-requires c κs = search needs
 
--- src/lib.rt:371:13
 crc-line-requires : tie.Need-crc-line-requires
 crc-line-requires c κs = search needs
 
--- src/lib.rt:372:9
 same-length : tie.Need-same-length
 same-length c = search needs
 
--- src/lib.rt:372:9
 same-length-2 : tie.Need-same-length-2
 same-length-2 c = search needs
 
--- src/lib.rt:372:9
 returns : tie.Need-returns
 returns c = rw (step-end (now (c .before .before .before .before .before .before .before .before .before .before .before .args .part)) (held (c .before .before .before .before .before .before .before .before .before .before .before .args .s) (now (c .before .before .before .before .before .before .before .before .before .before .before .args .ring)) (now (c .before .before .before .before .before .before .before .before .before .before .before .args .frame))) (c .before .before .before .before .before .before .if1 .taken), ← c .before .before .before .before .crc .ensures) (record { more-is = refl; held-is = refl; text-is = c .before .before .crc-line .ensures })
 
--- src/lib.rt:378:9
 is-bad-record-requires : tie.Need-is-bad-record-requires
 is-bad-record-requires c κs = search needs
 
--- src/lib.rt:380:13
 bad-line-requires : tie.Need-bad-line-requires
 bad-line-requires c κs = search needs
 
--- src/lib.rt:381:9
 same-length-3 : tie.Need-same-length-3
 same-length-3 c = search needs
 
--- src/lib.rt:381:9
 returns-2 : tie.Need-returns-2
 returns-2 c = rw (step-bad (now (c .before .before .before .before .before .before .before .before .before .before .before .args .part)) (held (c .before .before .before .before .before .before .before .before .before .before .before .args .s) (now (c .before .before .before .before .before .before .before .before .before .before .before .args .ring)) (now (c .before .before .before .before .before .before .before .before .before .before .before .args .frame))) (c .before .before .before .before .before .before .if1 .left) (sym (c .before .before .before .before .before .is-bad-record .ensures) ∙ c .before .before .before .before .if2 .taken)) (record { more-is = refl; held-is = refl; text-is = c .before .before .bad-line .ensures })
 
--- src/lib.rt:387:9
 word-at-requires : tie.Need-word-at-requires
 word-at-requires c κs = omega (arith, whole-record (now (c .before .before .before .before .before .before .before .args .part)) (length (now (c .before .before .before .before .before .before .before .args .ring))) (sym (c .before .is-bad-record .ensures) ∙ c .if2 .left) .0)
 
--- src/lib.rt:388:9
 word-at-requires-2 : tie.Need-word-at-requires-2
 word-at-requires-2 c κs = omega (arith, whole-record (now (c .before .before .before .before .before .before .before .before .args .part)) (length (now (c .before .before .before .before .before .before .before .before .args .ring))) (sym (c .before .before .is-bad-record .ensures) ∙ c .before .if2 .left) .0)
 
--- src/lib.rt:390:18
 cast-at : tie.Need-cast-at
 cast-at c = search needs
 
--- src/lib.rt:391:20
 word-at-requires-3 : tie.Need-word-at-requires-3
 word-at-requires-3 c κs = omega (arith, whole-record (now (c .before .before .before .before .before .before .before .before .before .before .args .part)) (length (now (c .before .before .before .before .before .before .before .before .before .before .args .ring))) (sym (c .before .before .before .before .is-bad-record .ensures) ∙ c .before .before .before .if2 .left) .0)
 
--- src/lib.rt:391:9
 mul-ring : tie.Need-mul-ring
 mul-ring c = search needs
 
--- src/lib.rt:391:9
 slice-write-ring : tie.Need-slice-write-ring
 slice-write-ring c = rw (c .before .before .word-at2 .ensures) (whole-record (now (c .before .before .before .before .before .before .before .before .before .before .before .args .part)) (length (now (c .before .before .before .before .before .before .before .before .before .before .before .args .ring))) (sym (c .before .before .before .before .before .is-bad-record .ensures) ∙ c .before .before .before .before .if2 .left) .1 (sym (c .before .before .before .word-at .ensures) ∙ c .before .if3 .taken))
 
--- src/lib.rt:392:9
 same-length-4 : tie.Need-same-length-4
 same-length-4 c = search needs
 
--- src/lib.rt:392:9
 returns-3 : tie.Need-returns-3
 returns-3 c =
     rw (step-store (now (c .before .before .before .before .before .before .before .before .before .before .before .args .part)) (held (c .before .before .before .before .before .before .before .before .before .before .before .args .s) (now (c .before .before .before .before .before .before .before .before .before .before .before .args .ring)) (now (c .before .before .before .before .before .before .before .before .before .before .before .args .frame))) (c .before .before .before .before .before .before .if1 .left) (sym (c .before .before .before .before .before .is-bad-record .ensures) ∙ c .before .before .before .before .if2 .left) (sym (c .before .before .before .word-at .ensures) ∙ c .before .if3 .taken), ← c .before .before .word-at2 .ensures, ← c .word-at3 .ensures)
     (record { more-is = refl; held-is = refl; text-is = record { counts = (omega arith, refl); text-is = refl } })
 
--- src/lib.rt:398:9
 ask-requires : tie.Need-ask-requires
 ask-requires c κs = search needs
 
--- src/lib.rt:399:9
 call-line-requires : tie.Need-call-line-requires
 call-line-requires c κs = search needs
 
--- src/lib.rt:366:1
 same-length-5 : tie.Need-same-length-5
 same-length-5 c = search needs
 
--- src/lib.rt:366:1
 same-length-6 : tie.Need-same-length-6
 same-length-6 c = search needs
 
--- src/lib.rt:366:1
 same-length-7 : tie.Need-same-length-7
 same-length-7 c = search needs
 
--- src/lib.rt:366:1
 returns-4 : tie.Need-returns-4
 returns-4 c =
     rw (step-call (now (c .before .before .before .before .before .before .before .before .before .before .before .before .before .before .before .before .before .before .before .before .args .part)) (held (c .before .before .before .before .before .before .before .before .before .before .before .before .before .before .before .before .before .before .before .before .args .s) (now (c .before .before .before .before .before .before .before .before .before .before .before .before .before .before .before .before .before .before .before .before .args .ring)) (now (c .before .before .before .before .before .before .before .before .before .before .before .before .before .before .before .before .before .before .before .before .args .frame))) (c .before .before .before .before .before .before .before .before .before .before .before .before .before .before .before .if1 .left) (sym (c .before .before .before .before .before .before .before .before .before .before .before .before .before .before .is-bad-record .ensures) ∙ c .before .before .before .before .before .before .before .before .before .before .before .before .before .if2 .left) (λ e. c .before .before .before .before .before .before .before .before .before .before .if3 .left (c .before .before .before .before .before .before .before .before .before .before .before .before .word-at .ensures ∙ e)), ← c .before .before .before .before .before .before .before .before .before .before .before .before .word-at .ensures, ← c .before .before .before .before .before .before .before .before .before .before .before .word-at2 .ensures, ← c .before .before .before .before .before .before .before .ask .ensures .0, ← c .before .before .before .before .before .before .before .ask .ensures .1)

@@ -2,19 +2,13 @@ use Rattle.recording.specs.Recording.{fileWord}
 use borrow.Author.Needs.{needs}
 use Rattle.recording.proofs.word_at.Statement.{statement}
 use Rattle.recording.proofs.word_at.Tie as tie
-use Rattle.recording.proofs.word_at.Reads as reads
-use Rattle.recording.proofs.word_at.Lts as lts
-use Rattle.pixel.proofs.get4.Reads as get4-reads
 
--- src/lib.rt:95:23
 mul-get4 : tie.Need-mul-get4
 mul-get4 c = search needs
 
--- src/lib.rt:95:5
 get4-requires : tie.Need-get4-requires
 get4-requires c κs = search needs
 
--- src/lib.rt:91:1
 returns : tie.Need-returns
 unfolding fileWord
 returns c = c .get4 .ensures

@@ -3,36 +3,25 @@ use native.Mathlib.Omega.{arith}
 use borrow.Author.Needs.{needs}
 use Rattle.text.proofs.crc_line.Statement.{statement}
 use Rattle.text.proofs.crc_line.Tie as tie
-use Rattle.text.proofs.crc_line.Reads as reads
-use Rattle.text.proofs.crc_line.Lts as lts
-use Rattle.text.proofs.put.Reads as put-reads
-use Rattle.text.proofs.put_hex.Reads as put-hex-reads
 
--- src/lib.rt:327:28
 slice-aggregate-put : tie.Need-slice-aggregate-put
 slice-aggregate-put c = search needs
 
--- src/lib.rt:327:9
 put-requires : tie.Need-put-requires
 put-requires c κs = search needs
 
--- src/lib.rt:328:9
 put-hex-requires : tie.Need-put-hex-requires
 put-hex-requires c κs = search needs
 
--- src/lib.rt:329:19
 slice-aggregate-put-2 : tie.Need-slice-aggregate-put-2
 slice-aggregate-put-2 c = search needs
 
--- src/lib.rt:329:5
 put-requires-2 : tie.Need-put-requires-2
 put-requires-2 c κs = search needs
 
--- src/lib.rt:323:1
 same-length : tie.Need-same-length
 same-length c = search needs
 
--- src/lib.rt:323:1
 returns : tie.Need-returns
 returns c = put-holds {m = 21} (omega arith) (put-then (put-then (c .before .before .before .before .before .before .before .before .before .before .before .put .ensures) (c .before .before .before .before .before .before .before .put-hex .ensures)) (c .before .before .put2 .ensures))
 

@@ -2,36 +2,25 @@ use Rattle.text.specs.Buffers.{put-then}
 use borrow.Author.Needs.{needs}
 use Rattle.text.proofs.put_answered.Statement.{statement}
 use Rattle.text.proofs.put_answered.Tie as tie
-use Rattle.text.proofs.put_answered.Reads as reads
-use Rattle.text.proofs.put_answered.Lts as lts
-use Rattle.text.proofs.put.Reads as put-reads
-use Rattle.text.proofs.put_answer.Reads as put-answer-reads
 
--- src/lib.rt:251:29
 slice-aggregate-put : tie.Need-slice-aggregate-put
 slice-aggregate-put c = search needs
 
--- src/lib.rt:251:9
 put-requires : tie.Need-put-requires
 put-requires c κs = search needs
 
--- src/lib.rt:252:9
 put-answer-requires : tie.Need-put-answer-requires
 put-answer-requires c κs = search needs
 
--- src/lib.rt:253:19
 slice-aggregate-put-2 : tie.Need-slice-aggregate-put-2
 slice-aggregate-put-2 c = search needs
 
--- src/lib.rt:253:5
 put-requires-2 : tie.Need-put-requires-2
 put-requires-2 c κs = search needs
 
--- src/lib.rt:247:1
 same-length : tie.Need-same-length
 same-length c = search needs
 
--- src/lib.rt:247:1
 returns : tie.Need-returns
 returns c = put-then (put-then (c .before .before .before .before .before .before .before .before .before .before .before .put .ensures) (c .before .before .before .before .before .before .before .put-answer .ensures)) (c .before .before .put2 .ensures)
 

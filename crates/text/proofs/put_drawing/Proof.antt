@@ -2,36 +2,25 @@ use Rattle.text.specs.Buffers.{put-then}
 use borrow.Author.Needs.{needs}
 use Rattle.text.proofs.put_drawing.Statement.{statement}
 use Rattle.text.proofs.put_drawing.Tie as tie
-use Rattle.text.proofs.put_drawing.Reads as reads
-use Rattle.text.proofs.put_drawing.Lts as lts
-use Rattle.text.proofs.put.Reads as put-reads
-use Rattle.text.proofs.put_place.Reads as put-place-reads
 
--- src/lib.rt:260:29
 slice-aggregate-put : tie.Need-slice-aggregate-put
 slice-aggregate-put c = search needs
 
--- src/lib.rt:260:9
 put-requires : tie.Need-put-requires
 put-requires c κs = search needs
 
--- src/lib.rt:261:9
 put-place-requires : tie.Need-put-place-requires
 put-place-requires c κs = search needs
 
--- src/lib.rt:262:19
 slice-aggregate-put-2 : tie.Need-slice-aggregate-put-2
 slice-aggregate-put-2 c = search needs
 
--- src/lib.rt:262:5
 put-requires-2 : tie.Need-put-requires-2
 put-requires-2 c κs = search needs
 
--- src/lib.rt:256:1
 same-length : tie.Need-same-length
 same-length c = search needs
 
--- src/lib.rt:256:1
 returns : tie.Need-returns
 returns c = put-then (put-then (c .before .before .before .before .before .before .before .before .before .before .before .put .ensures) (c .before .before .before .before .before .before .before .put-place .ensures)) (c .before .before .put2 .ensures)
 

@@ -2,36 +2,25 @@ use Rattle.text.specs.Buffers.{put-then}
 use borrow.Author.Needs.{needs}
 use Rattle.text.proofs.put_ended.Statement.{statement}
 use Rattle.text.proofs.put_ended.Tie as tie
-use Rattle.text.proofs.put_ended.Reads as reads
-use Rattle.text.proofs.put_ended.Lts as lts
-use Rattle.text.proofs.put.Reads as put-reads
-use Rattle.text.proofs.put_state.Reads as put-state-reads
 
--- src/lib.rt:147:29
 slice-aggregate-put : tie.Need-slice-aggregate-put
 slice-aggregate-put c = search needs
 
--- src/lib.rt:147:9
 put-requires : tie.Need-put-requires
 put-requires c κs = search needs
 
--- src/lib.rt:148:9
 put-state-requires : tie.Need-put-state-requires
 put-state-requires c κs = search needs
 
--- src/lib.rt:149:19
 slice-aggregate-put-2 : tie.Need-slice-aggregate-put-2
 slice-aggregate-put-2 c = search needs
 
--- src/lib.rt:149:5
 put-requires-2 : tie.Need-put-requires-2
 put-requires-2 c κs = search needs
 
--- src/lib.rt:143:1
 same-length : tie.Need-same-length
 same-length c = search needs
 
--- src/lib.rt:143:1
 returns : tie.Need-returns
 returns c = put-then (put-then (c .before .before .before .before .before .before .before .before .before .before .before .put .ensures) (c .before .before .before .before .before .before .before .put-state .ensures)) (c .before .before .put2 .ensures)
 

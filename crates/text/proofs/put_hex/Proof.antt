@@ -5,37 +5,25 @@ use Rattle.text.specs.Numerals.{fewest-hexadecimal as eight}
 use borrow.Author.Needs.{needs}
 use Rattle.text.proofs.put_hex.Statement.{statement}
 use Rattle.text.proofs.put_hex.Tie as tie
-use Rattle.text.proofs.put_hex.Reads as reads
-use Rattle.text.proofs.put_hex.Lts as lts
-use Rattle.io.proofs.hex.Reads as hex-reads
-use Rattle.text.proofs.longer.Reads as longer-reads
-use Rattle.text.proofs.put.Reads as put-reads
 
--- src/lib.rt:318:21
 longer-requires : tie.Need-longer-requires
 longer-requires c κs = search needs
 
--- src/lib.rt:318:9
 hex-requires : tie.Need-hex-requires
 hex-requires c κs = search needs
 
--- src/lib.rt:319:18
 array-share-prefix-digits : tie.Need-array-share-prefix-digits
 array-share-prefix-digits c = search needs
 
--- src/lib.rt:319:18
 slice-aggregate-put : tie.Need-slice-aggregate-put
 slice-aggregate-put c = search needs
 
--- src/lib.rt:319:5
 put-requires : tie.Need-put-requires
 put-requires c κs = omega (arith, c .before .before .hex .ensures .0, eight (c .before .before .before .before .before .before .args .n) (c .before .before .hex .result) (omega arith) (rw (c .before .before .before .before .longer .ensures) at (c .before .before .hex .ensures .1 .0)) .0)
 
--- src/lib.rt:313:1
 same-length : tie.Need-same-length
 same-length c = search needs
 
--- src/lib.rt:313:1
 returns : tie.Need-returns
 returns c =
     let e = eight (c .before .before .before .before .before .before .before .before .before .args .n) (c .before .before .before .before .before .hex .result) (omega arith) (rw (c .before .before .before .before .before .before .before .longer .ensures) at (c .before .before .before .before .before .hex .ensures .1 .0)) in

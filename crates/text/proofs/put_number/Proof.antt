@@ -7,24 +7,16 @@ use native.Mathlib.Omega.{arith}
 use borrow.Author.Needs.{needs}
 use Rattle.text.proofs.put_number.Statement.{statement}
 use Rattle.text.proofs.put_number.Tie as tie
-use Rattle.text.proofs.put_number.Reads as reads
-use Rattle.text.proofs.put_number.Lts as lts
-use Rattle.io.proofs.decimal.Reads as decimal-reads
-use Rattle.text.proofs.put.Reads as put-reads
 
--- src/lib.rt:91:9
 decimal-requires : tie.Need-decimal-requires
 decimal-requires c κs = search needs
 
--- src/lib.rt:92:18
 array-share-prefix-digits : tie.Need-array-share-prefix-digits
 array-share-prefix-digits c = search needs
 
--- src/lib.rt:92:18
 slice-aggregate-put : tie.Need-slice-aggregate-put
 slice-aggregate-put c = search needs
 
--- src/lib.rt:92:5
 -- a u64 has at most 20 digits
 most : (n k : ℕ) → n < 18_446_744_073_709_551_616 → Fewest 10 1 n k → k ≤ 20
 most n k h f = fewest-most 10 1 20 n k (omega arith) (omega arith) (omega arith) f
@@ -34,11 +26,9 @@ put-requires c κs =
     let h : c .before .before .before .before .before .args .n < 18_446_744_073_709_551_616 = omega arith in
     omega (arith, c .before .before .decimal .ensures .0, most (c .before .before .before .before .before .args .n) (c .before .before .decimal .result) h (c .before .before .decimal .ensures .1 .0))
 
--- src/lib.rt:86:1
 same-length : tie.Need-same-length
 same-length c = search needs
 
--- src/lib.rt:86:1
 returns : tie.Need-returns
 returns c =
     let h : c .before .before .before .before .before .before .before .before .args .n < 18_446_744_073_709_551_616 = omega arith in

@@ -3,41 +3,28 @@ use Rattle.recording.specs.Trace.{lendable}
 use borrow.Author.Needs.{needs}
 use Rattle.trace.proofs.go_on.Statement.{statement}
 use Rattle.trace.proofs.go_on.Tie as tie
-use Rattle.trace.proofs.go_on.Reads as reads
-use Rattle.trace.proofs.go_on.Lts as lts
-use Rattle.recording.proofs.frame_buffer.Reads as frame-buffer-reads
-use Rattle.recording.proofs.ring_buffer.Reads as ring-buffer-reads
-use Rattle.trace.proofs.records.Reads as records-reads
 
--- src/main.rt:71:20
 ring-buffer-requires : tie.Need-ring-buffer-requires
 ring-buffer-requires c κs = search needs
 
--- src/main.rt:72:21
 frame-buffer-requires : tie.Need-frame-buffer-requires
 frame-buffer-requires c κs = search needs
 
--- src/main.rt:77:9
 array-borrow-prefix-ring : tie.Need-array-borrow-prefix-ring
 array-borrow-prefix-ring c = lendable (now (c .before .before .before .before .args .head)) (c .before .ring-buffer .result) (c .frame-buffer .result) (c .before .before .before .before .args .s) (c .before .before .before .before .pre .0) (c .before .before .before .before .pre .1) (c .before .ring-buffer .ensures) (c .frame-buffer .ensures) .ring-in
 
--- src/main.rt:77:9
 slice-aggregate-records : tie.Need-slice-aggregate-records
 slice-aggregate-records c = lendable (now (c .before .before .before .before .before .args .head)) (c .before .before .ring-buffer .result) (c .before .frame-buffer .result) (c .before .before .before .before .before .args .s) (c .before .before .before .before .before .pre .0) (c .before .before .before .before .before .pre .1) (c .before .before .ring-buffer .ensures) (c .before .frame-buffer .ensures) .ring-part
 
--- src/main.rt:78:9
 array-borrow-prefix-frame : tie.Need-array-borrow-prefix-frame
 array-borrow-prefix-frame c = lendable (now (c .before .before .before .before .before .args .head)) (c .before .before .ring-buffer .result) (c .before .frame-buffer .result) (c .before .before .before .before .before .args .s) (c .before .before .before .before .before .pre .0) (c .before .before .before .before .before .pre .1) (c .before .before .ring-buffer .ensures) (c .before .frame-buffer .ensures) .frame-in
 
--- src/main.rt:78:9
 slice-aggregate-records-2 : tie.Need-slice-aggregate-records-2
 slice-aggregate-records-2 c = lendable (now (c .before .before .before .before .before .before .args .head)) (c .before .before .before .ring-buffer .result) (c .before .before .frame-buffer .result) (c .before .before .before .before .before .before .args .s) (c .before .before .before .before .before .before .pre .0) (c .before .before .before .before .before .before .pre .1) (c .before .before .before .ring-buffer .ensures) (c .before .before .frame-buffer .ensures) .frame-part
 
--- src/main.rt:73:5
 records-requires : tie.Need-records-requires
 records-requires c κs = lendable (now (c .before .before .before .before .before .before .args .head)) (c .before .before .before .ring-buffer .result) (c .before .before .frame-buffer .result) (c .before .before .before .before .before .before .args .s) (c .before .before .before .before .before .before .pre .0) (c .before .before .before .before .before .before .pre .1) (c .before .before .before .ring-buffer .ensures) (c .before .before .frame-buffer .ensures) .held-is
 
--- src/main.rt:65:1
 returns : tie.Need-returns
 returns c = search needs
 

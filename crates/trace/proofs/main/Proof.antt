@@ -2,53 +2,37 @@ use Rattle.recording.specs.Parts.{part-length}
 use borrow.Author.Needs.{needs}
 use Rattle.trace.proofs.main.Statement.{statement}
 use Rattle.trace.proofs.main.Tie as tie
-use Rattle.trace.proofs.main.Reads as reads
-use Rattle.trace.proofs.main.Lts as lts
-use Rattle.recording.proofs.open.Reads as open-reads
-use Rattle.recording.proofs.read.Reads as read-reads
-use Rattle.trace.proofs.trace.Reads as trace-reads
 
--- src/main.rt:91:9
 open-requires : tie.Need-open-requires
 open-requires c κs = search needs
 
--- src/main.rt:93:9
 returns : tie.Need-returns
 returns c = search needs
 
--- src/main.rt:96:35
 slice-aggregate-read : tie.Need-slice-aggregate-read
 slice-aggregate-read c = search needs
 
--- src/main.rt:96:9
 read-requires : tie.Need-read-requires
 read-requires c κs = search needs
 
--- src/main.rt:97:22
 enum-known-got : tie.Need-enum-known-got
 enum-known-got c = search needs
 
--- src/main.rt:98:9
 enum-told : tie.Need-enum-told
 enum-told c = search needs
 
--- src/main.rt:98:9
 returns-2 : tie.Need-returns-2
 returns-2 c = search needs
 
--- src/main.rt:100:15
 array-share-prefix-head : tie.Need-array-share-prefix-head
 array-share-prefix-head c = rw (c .before .got .given .1) at (c .before .before .before .before .read .ensures)
 
--- src/main.rt:100:15
 slice-aggregate-trace : tie.Need-slice-aggregate-trace
 slice-aggregate-trace c = part-length (c .before .before .got .given .0 .0) (c .before .before .before .before .before .read .last .1 .0) (rw (c .before .before .got .given .1) at (c .before .before .before .before .before .read .ensures))
 
--- src/main.rt:100:5
 trace-requires : tie.Need-trace-requires
 trace-requires c κs = search needs
 
--- src/main.rt:90:1
 returns-3 : tie.Need-returns-3
 returns-3 c = search needs
 

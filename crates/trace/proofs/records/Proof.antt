@@ -6,9 +6,6 @@ use lib.ListN.{length}
 use Rattle.recording.specs.Trace.{held, beginOf, Reached, reached-then}
 use Rattle.trace.proofs.records.Statement.{statement}
 use Rattle.trace.proofs.records.Tie as tie
-use Rattle.trace.proofs.records.Reads as reads
-use Rattle.trace.proofs.records.Lts as lts
-use Rattle.trace.proofs.do_record.Reads as do-record-reads
 
 abbrev Inv-loop : tie.InvT-loop
 Inv-loop fd head ring₀ frame₀ t₀ turns₀ ring frame t turns =
@@ -17,47 +14,36 @@ Inv-loop fd head ring₀ frame₀ t₀ turns₀ ring frame t turns =
 abbrev μ-loop : tie.MeasureT-loop
 μ-loop fd head ring₀ frame₀ t₀ turns₀ ring frame t turns = turns
 
--- src/main.rt:52:5
 loop-holds : tie.Need-loop-holds Inv-loop μ-loop
 loop-holds c = (refl, refl, rw (c .before .before .before .pre) (record { parts = []; all-go = tt; after-is = refl }))
 
--- src/main.rt:53:9
 sub-turns : tie.Need-sub-turns Inv-loop μ-loop
 sub-turns c = search needs
 
--- src/main.rt:54:13
 do-record-requires : tie.Need-do-record-requires Inv-loop μ-loop
 do-record-requires c κs = search needs
 
--- src/main.rt:57:13
 same-length : tie.Need-same-length Inv-loop μ-loop
 same-length c = search needs
 
--- src/main.rt:57:13
 same-length-2 : tie.Need-same-length-2 Inv-loop μ-loop
 same-length-2 c = search needs
 
--- src/main.rt:57:13
 returns : tie.Need-returns Inv-loop μ-loop
 returns c = reached-then _ _ _ (c .before .before .before .before .before .before .before .before .before .before .before .loop .inv .2) (c .before .before .before .before .before .before .before .do-record .ensures)
 
--- src/main.rt:52:5
 loop-less : tie.Need-loop-less Inv-loop μ-loop
 loop-less c = search needs
 
--- src/main.rt:52:5
 loop-again : tie.Need-loop-again Inv-loop μ-loop
 loop-again c = (c .before .before .before .before .before .before .before .do-record .kept .1 .1 .0 ∙ c .before .before .before .before .before .before .before .before .before .before .before .loop .inv .0, c .before .before .before .before .before .before .before .do-record .kept .1 .1 .1 .0 ∙ c .before .before .before .before .before .before .before .before .before .before .before .loop .inv .1, reached-then _ _ _ (c .before .before .before .before .before .before .before .before .before .before .before .loop .inv .2) (c .before .before .before .before .before .before .before .do-record .ensures))
 
--- src/main.rt:46:1
 same-length-3 : tie.Need-same-length-3 Inv-loop μ-loop
 same-length-3 c = search needs
 
--- src/main.rt:46:1
 same-length-4 : tie.Need-same-length-4 Inv-loop μ-loop
 same-length-4 c = search needs
 
--- src/main.rt:46:1
 returns-2 : tie.Need-returns-2 Inv-loop μ-loop
 returns-2 c = c .before .loop .inv .2
 
