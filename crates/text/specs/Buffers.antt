@@ -25,6 +25,10 @@ put-then {a} {b} {c} {s} {t} {at} g h = record {
   text-is = h .text-is ∙ ap (λ (x : List ℕ). x ++ t) (g .text-is) ∙ append-assoc (take at a) s t;
 }
 
+-- two texts, put at once, after another
+pub put-both : (t u : List ℕ) {a b c s : List ℕ} {at p e m n : ℕ} → Put a at s m b p → Put b p (t ++ u) n c e → Put a at (s ++ t ++ u) (m + n) c e
+put-both t u {s = s} g h = rw (append-assoc s t u) (put-then g h)
+
 pub put-most : {a b s : List ℕ} {at e m n : ℕ} → m ≤ n → Put a at s m b e → Put a at s n b e
 put-most l h = record { end-most = omega arith; text-is = h .text-is }
 

@@ -18,9 +18,13 @@ use Rattle.text.specs.Numerals.{decimal, hexadecimal}
 
 -- ---- the replay's lines
 
+-- a key, its value and what ends it
+abbrev pub field : String → List ℕ → List ℕ → List ℕ
+field key value end = ascii key ++ ascii "=" ++ value ++ end
+
 -- "key=value lines"
 abbrev pub line : String → List ℕ → List ℕ
-line key value = ascii key ++ ascii "=" ++ value ++ ascii "\n"
+line key value = field key value (ascii "\n")
 
 -- "one word: stopped, .. waiting, .. spent"
 abbrev pub runName : RunWord → List ℕ
@@ -59,7 +63,7 @@ badLine = line "recording" (ascii "bad")
 
 -- a call's line has fields, of which all but the last end with a space
 abbrev pub item : String → List ℕ → List ℕ
-item key value = ascii key ++ ascii "=" ++ value ++ ascii " "
+item key value = field key value (ascii " ")
 
 -- the calls by their numbers in a trace; setup has none
 abbrev pub callName : ℕ → List ℕ

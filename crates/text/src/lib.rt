@@ -1,12 +1,12 @@
 // Text: numbers in decimal and hexadecimal, and the lines that the programs write of the engine's answers.
 ghost use mathlib.Core.Path.{_≡_};
-ghost use mathlib.Core.List.{_++_};
+ghost use mathlib.Core.List.{[], _∷_, _++_};
 ghost use Prim.Native.Nat.{_+_, _≤_};
 ghost use lib.ListN.{length};
 ghost use Rattle.model.specs.Calls.{numberOf, unitsOf, roomOf};
 ghost use Rattle.text.specs.Ascii.{ascii};
 ghost use Rattle.text.specs.Numerals.{decimal, hexadecimal};
-ghost use Rattle.text.specs.Lines.{line, runName, stateName, lastNumber, replayLines, badLine, item, callName, answerName, placeName, askedItems, stateItems, callLine, crcLine};
+ghost use Rattle.text.specs.Lines.{line, field, runName, stateName, lastNumber, replayLines, badLine, item, callName, answerName, placeName, askedItems, stateItems, callLine, crcLine};
 ghost use Rattle.text.specs.Buffers.{Put, Holds};
 use model::Answer;
 use model::Kind;
@@ -92,27 +92,33 @@ fn put_number(out: &mut [u8], at: usize, n: u64) -> usize
     put(out, at, &digits[..k])
 }
 
-// A name, an equals sign, a number and what ends it.
-fn put_field(out: &mut [u8], at: usize, name: &[u8], n: u64, end: &[u8]) -> usize
-    requires { ⌜ at + (length (now name) + 1 + 20 + length (now end)) ≤ length (now out) ⌝ }
-    ensures { λ r. ⌜ Put (now (out .entry)) at (now (name .entry) ++ ascii "=" ++ decimal n ++ now (end .entry)) (length (now (name .entry)) + 1 + 20 + length (now (end .entry))) (now (out .exit)) r ⌝ }
+// One byte.
+fn put_byte(out: &mut [u8], at: usize, byte: u8) -> usize
+    requires { ⌜ at + 1 ≤ length (now out) ⌝ }
+    ensures { λ r. ⌜ Put (now (out .entry)) at (byte ∷ []) 1 (now (out .exit)) r ⌝ }
+{
+    out[at] = byte;
+    at + 1
+}
+
+// A name, an equals sign, a number and the byte that ends it.
+fn put_field(out: &mut [u8], at: usize, name: &[u8], n: u64, end: u8) -> usize
+    requires { ⌜ at + (length (now name) + 1 + 20 + 1) ≤ length (now out) ⌝ }
+    ensures { λ r. ⌜ Put (now (out .entry)) at (now (name .entry) ++ ascii "=" ++ decimal n ++ (end ∷ [])) (length (now (name .entry)) + 1 + 20 + 1) (now (out .exit)) r ⌝ }
 {
     let sign = put(out, at, name);
-    let value = put(out, sign, b"=");
+    let value = put_byte(out, sign, b'=');
     let last = put_number(out, value, n);
-    put(out, last, end)
+    put_byte(out, last, end)
 }
 
-fn long(n: usize) -> u64
-    ensures { λ r. ⌜ r ≡ n ⌝ }
+// The ring's read and write pointers, in lines or in one.
+fn put_pointers(out: &mut [u8], at: usize, read: u64, write: u64, end: u8) -> usize
+    requires { ⌜ at + 53 ≤ length (now out) ⌝ }
+    ensures { λ r. ⌜ Put (now (out .entry)) at (field "read" (decimal read) (end ∷ []) ++ field "write" (decimal write) (end ∷ [])) 53 (now (out .exit)) r ⌝ }
 {
-    n as u64
-}
-
-fn longer(n: u32) -> u64
-    ensures { λ r. ⌜ r ≡ n ⌝ }
-{
-    n as u64
+    let next = put_field(out, at, b"read", read, end);
+    put_field(out, next, b"write", write, end)
 }
 
 fn put_word(out: &mut [u8], at: usize, word: RunWord) -> usize
@@ -146,7 +152,7 @@ fn put_ended(out: &mut [u8], at: usize, reply: Reply) -> usize
 {
     let name = put(out, at, b"state=");
     let end = put_state(out, name, reply);
-    put(out, end, b"\n")
+    put_byte(out, end, b'\n')
 }
 
 // The first four lines.
@@ -155,10 +161,9 @@ fn put_counts(out: &mut [u8], s: State, units: u32) -> usize
     ensures { λ r. ⌜ Put (now (out .entry)) 0 (line "retired" (decimal (s .core .completion)) ++ line "units" (decimal units) ++ line "read" (decimal (s .core .read)) ++ line "write" (decimal (s .write))) 109 (now (out .exit)) r ⌝ }
 {
     let c = s.core;
-    let retired = put_field(out, 0, b"retired", longer(c.completion), b"\n");
-    let used = put_field(out, retired, b"units", longer(units), b"\n");
-    let read = put_field(out, used, b"read", long(c.read), b"\n");
-    put_field(out, read, b"write", long(s.write), b"\n")
+    let retired = put_field(out, 0, b"retired", c.completion as u64, b'\n');
+    let used = put_field(out, retired, b"units", units as u64, b'\n');
+    put_pointers(out, used, c.read as u64, s.write as u64, b'\n')
 }
 
 // Puts the lines of a replay that ended with an answer into a buffer, and answers their length.
@@ -169,10 +174,10 @@ pub fn replay_lines(a: Answer, out: &mut [u8]) -> usize
     let s = a.state;
     let c = s.core;
     let reply = a.reply;
-    let no = longer(last_number(reply, c.stop));
+    let no = last_number(reply, c.stop);
     let counts = put_counts(out, s, units_of(reply));
     let state = put_ended(out, counts, reply);
-    put_field(out, state, b"refusal", no, b"\n")
+    put_field(out, state, b"refusal", no as u64, b'\n')
 }
 
 // Puts the line of a bad recording.
@@ -218,7 +223,7 @@ fn put_answer(out: &mut [u8], at: usize, reply: Reply) -> usize
     ensures { λ r. ⌜ Put (now (out .entry)) at (answerName reply) 28 (now (out .exit)) r ⌝ }
 {
     match reply {
-        Reply::Refused(number) => put_numbered(out, at, b"refused-", longer(number)),
+        Reply::Refused(number) => put_numbered(out, at, b"refused-", number as u64),
         Reply::Done { .. } => put(out, at, b"0"),
         Reply::Ran { word, .. } => put_word(out, at, word),
     }
@@ -229,8 +234,8 @@ fn put_drawn(out: &mut [u8], at: usize, kind: Kind, k: usize) -> usize
     ensures { λ r. ⌜ Put (now (out .entry)) at (placeName (Place.Drawing kind k)) 27 (now (out .exit)) r ⌝ }
 {
     match kind {
-        Kind::Blt => put_numbered(out, at, b"blt-", long(k)),
-        Kind::Vector => put_numbered(out, at, b"vector-", long(k)),
+        Kind::Blt => put_numbered(out, at, b"blt-", k as u64),
+        Kind::Vector => put_numbered(out, at, b"vector-", k as u64),
     }
 }
 
@@ -250,7 +255,7 @@ fn put_called(out: &mut [u8], op: u32) -> usize
 {
     let name = put(out, 0, b"call=");
     let end = put_call(out, name, op);
-    put(out, end, b" ")
+    put_byte(out, end, b' ')
 }
 
 fn put_answered(out: &mut [u8], at: usize, reply: Reply) -> usize
@@ -259,7 +264,7 @@ fn put_answered(out: &mut [u8], at: usize, reply: Reply) -> usize
 {
     let name = put(out, at, b"answer=");
     let end = put_answer(out, name, reply);
-    put(out, end, b" ")
+    put_byte(out, end, b' ')
 }
 
 fn put_drawing(out: &mut [u8], at: usize, place: Place) -> usize
@@ -268,7 +273,7 @@ fn put_drawing(out: &mut [u8], at: usize, place: Place) -> usize
 {
     let name = put(out, at, b"drawing=");
     let end = put_place(out, name, place);
-    put(out, end, b"\n")
+    put_byte(out, end, b'\n')
 }
 
 // A call and what it answers.
@@ -276,12 +281,12 @@ fn put_asked(out: &mut [u8], op: u32, reply: Reply) -> usize
     requires { ⌜ 102 ≤ length (now out) ⌝ }
     ensures { λ r. ⌜ Put (now (out .entry)) 0 (askedItems op reply) 102 (now (out .exit)) r ⌝ }
 {
-    let units = longer(units_of(reply));
-    let room = long(room_of(reply));
+    let units = units_of(reply);
+    let room = room_of(reply);
     let called = put_called(out, op);
     let answered = put_answered(out, called, reply);
-    let used = put_field(out, answered, b"units", units, b" ");
-    put_field(out, used, b"room", room, b" ")
+    let used = put_field(out, answered, b"units", units as u64, b' ');
+    put_field(out, used, b"room", room as u64, b' ')
 }
 
 // The numbers of a state.
@@ -290,10 +295,9 @@ fn put_numbers(out: &mut [u8], at: usize, s: State) -> usize
     ensures { λ r. ⌜ Put (now (out .entry)) at (item "read" (decimal (s .core .read)) ++ item "write" (decimal (s .write)) ++ item "retired" (decimal (s .core .completion)) ++ item "stop" (decimal (s .core .stop))) 108 (now (out .exit)) r ⌝ }
 {
     let c = s.core;
-    let read = put_field(out, at, b"read", long(c.read), b" ");
-    let write = put_field(out, read, b"write", long(s.write), b" ");
-    let retired = put_field(out, write, b"retired", longer(c.completion), b" ");
-    put_field(out, retired, b"stop", longer(c.stop), b" ")
+    let pointers = put_pointers(out, at, c.read as u64, s.write as u64, b' ');
+    let retired = put_field(out, pointers, b"retired", c.completion as u64, b' ');
+    put_field(out, retired, b"stop", c.stop as u64, b' ')
 }
 
 // The state that a call hands back.
@@ -324,7 +328,7 @@ fn put_hex(out: &mut [u8], at: usize, n: u32) -> usize
     ensures { λ r. ⌜ Put (now (out .entry)) at (hexadecimal n) 8 (now (out .exit)) r ⌝ }
 {
     let mut digits = [0u8; 16];
-    let k = io::hex(longer(n), 8, &mut digits);
+    let k = io::hex(n as u64, 8, &mut digits);
     put(out, at, &digits[..k])
 }
 
@@ -335,5 +339,5 @@ pub fn crc_line(crc: u32, out: &mut [u8]) -> usize
 {
     let name = put(out, 0, b"frame_crc32=");
     let end = put_hex(out, name, crc);
-    put(out, end, b"\n")
+    put_byte(out, end, b'\n')
 }

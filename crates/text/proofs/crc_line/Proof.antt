@@ -13,17 +13,14 @@ put-requires c κs = search needs
 put-hex-requires : tie.Need-put-hex-requires
 put-hex-requires c κs = search needs
 
-slice-aggregate-put-2 : tie.Need-slice-aggregate-put-2
-slice-aggregate-put-2 c = search needs
-
-put-requires-2 : tie.Need-put-requires-2
-put-requires-2 c κs = search needs
+put-byte-requires : tie.Need-put-byte-requires
+put-byte-requires c κs = search needs
 
 same-length : tie.Need-same-length
 same-length c = search needs
 
 returns : tie.Need-returns
-returns c = put-holds {m = 21} (omega arith) (put-then (put-then (c .before .before .before .before .before .before .before .before .before .before .before .put .ensures) (c .before .before .before .before .before .before .before .put-hex .ensures)) (c .before .before .put2 .ensures))
+returns c = put-holds {m = 21} (omega arith) (put-then (put-then (c .before .before .before .before .before .before .before .before .before .before .put .ensures) (c .before .before .before .before .before .before .put-hex .ensures)) (c .before .before .put-byte .ensures))
 
 pub crc-line-spec : {M : Type 1} → statement M
 crc-line-spec =
@@ -32,7 +29,6 @@ crc-line-spec =
     slice-aggregate-put
     put-requires
     put-hex-requires
-    slice-aggregate-put-2
-    put-requires-2
+    put-byte-requires
     same-length
     returns)

@@ -10,8 +10,8 @@ enum-known-reply c = search needs
 slice-aggregate-put-numbered : tie.Need-slice-aggregate-put-numbered
 slice-aggregate-put-numbered c = search needs
 
-longer-requires : tie.Need-longer-requires
-longer-requires c κs = search needs
+cast-put-numbered : tie.Need-cast-put-numbered
+cast-put-numbered c = search needs
 
 put-numbered-requires : tie.Need-put-numbered-requires
 put-numbered-requires c κs = search needs
@@ -35,7 +35,7 @@ same-length : tie.Need-same-length
 same-length c = search needs
 
 returns : tie.Need-returns
-returns c = rw (c .before .before .before .before .before .before .before .reply .given .1) (rw (c .before .before .before .longer .ensures) at (put-most {n = 28} (omega arith) (c .before .before .put-numbered .ensures)))
+returns c = rw (c .before .before .before .before .before .before .reply .given .1) (put-most {n = 28} (omega arith) (c .before .before .put-numbered .ensures))
 
 same-length-2 : tie.Need-same-length-2
 same-length-2 c = search needs
@@ -55,7 +55,7 @@ put-answer-spec =
     (tie.spec
     enum-known-reply
     slice-aggregate-put-numbered
-    longer-requires
+    cast-put-numbered
     put-numbered-requires
     enum-told
     slice-aggregate-put

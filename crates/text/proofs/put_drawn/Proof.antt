@@ -10,9 +10,6 @@ enum-told c = search needs
 slice-aggregate-put-numbered : tie.Need-slice-aggregate-put-numbered
 slice-aggregate-put-numbered c = search needs
 
-long-requires : tie.Need-long-requires
-long-requires c κs = search needs
-
 put-numbered-requires : tie.Need-put-numbered-requires
 put-numbered-requires c κs = search needs
 
@@ -22,9 +19,6 @@ enum-told-2 c = search needs
 slice-aggregate-put-numbered-2 : tie.Need-slice-aggregate-put-numbered-2
 slice-aggregate-put-numbered-2 c = search needs
 
-long-requires-2 : tie.Need-long-requires-2
-long-requires-2 c κs = search needs
-
 put-numbered-requires-2 : tie.Need-put-numbered-requires-2
 put-numbered-requires-2 c κs = search needs
 
@@ -32,13 +26,13 @@ same-length : tie.Need-same-length
 same-length c = search needs
 
 returns : tie.Need-returns
-returns c = rw (c .before .before .before .before .before .before .enum-told .given .1) (rw (c .before .before .before .long .ensures) at (put-most {n = 27} (omega arith) (c .before .before .put-numbered .ensures)))
+returns c = rw (c .before .before .before .before .before .enum-told .given .1) (put-most (omega arith) (c .before .before .put-numbered .ensures))
 
 same-length-2 : tie.Need-same-length-2
 same-length-2 c = search needs
 
 returns-2 : tie.Need-returns-2
-returns-2 c = rw (c .before .before .before .before .before .before .enum-told2 .given .1) (rw (c .before .before .before .long2 .ensures) at (c .before .before .put-numbered2 .ensures))
+returns-2 c = rw (c .before .before .before .before .before .enum-told2 .given .1) (c .before .before .put-numbered2 .ensures)
 
 pub put-drawn-spec : {M : Type 1} → statement M
 put-drawn-spec =
@@ -46,11 +40,9 @@ put-drawn-spec =
     (tie.spec
     enum-told
     slice-aggregate-put-numbered
-    long-requires
     put-numbered-requires
     enum-told-2
     slice-aggregate-put-numbered-2
-    long-requires-2
     put-numbered-requires-2
     same-length
     returns

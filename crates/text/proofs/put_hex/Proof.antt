@@ -6,9 +6,6 @@ use borrow.Author.Needs.{needs}
 use Rattle.text.proofs.put_hex.Statement.{statement}
 use Rattle.text.proofs.put_hex.Tie as tie
 
-longer-requires : tie.Need-longer-requires
-longer-requires c κs = search needs
-
 hex-requires : tie.Need-hex-requires
 hex-requires c κs = search needs
 
@@ -19,21 +16,20 @@ slice-aggregate-put : tie.Need-slice-aggregate-put
 slice-aggregate-put c = search needs
 
 put-requires : tie.Need-put-requires
-put-requires c κs = omega (arith, c .before .before .hex .ensures .0, eight (c .before .before .before .before .before .before .args .n) (c .before .before .hex .result) (omega arith) (rw (c .before .before .before .before .longer .ensures) at (c .before .before .hex .ensures .1 .0)) .0)
+put-requires c κs = omega (arith, c .before .before .hex .ensures .0, eight (c .before .before .before .before .before .args .n) (c .before .before .hex .result) (omega arith) (c .before .before .hex .ensures .1 .0) .0)
 
 same-length : tie.Need-same-length
 same-length c = search needs
 
 returns : tie.Need-returns
 returns c =
-    let e = eight (c .before .before .before .before .before .before .before .before .before .args .n) (c .before .before .before .before .before .hex .result) (omega arith) (rw (c .before .before .before .before .before .before .before .longer .ensures) at (c .before .before .before .before .before .hex .ensures .1 .0)) in
-    rw (rw (c .before .before .before .before .before .before .before .longer .ensures) at (c .before .before .before .before .before .hex .ensures .1 .1) ∙ e .1) at (put-most {n = 8} (omega (arith, c .before .before .before .before .before .hex .ensures .0)) (c .before .before .put .ensures))
+    let e = eight (c .before .before .before .before .before .before .before .before .args .n) (c .before .before .before .before .before .hex .result) (omega arith) (c .before .before .before .before .before .hex .ensures .1 .0) in
+    rw (c .before .before .before .before .before .hex .ensures .1 .1 ∙ e .1) at (put-most {n = 8} (omega (arith, c .before .before .before .before .before .hex .ensures .0)) (c .before .before .put .ensures))
 
 pub put-hex-spec : {M : Type 1} → statement M
 put-hex-spec =
     tie.close
     (tie.spec
-    longer-requires
     hex-requires
     array-share-prefix-digits
     slice-aggregate-put

@@ -3,79 +3,43 @@ use borrow.Author.Needs.{needs}
 use Rattle.text.proofs.put_numbers.Statement.{statement}
 use Rattle.text.proofs.put_numbers.Tie as tie
 
+put-pointers-requires : tie.Need-put-pointers-requires
+put-pointers-requires c κs = search needs
+
 slice-aggregate-put-field : tie.Need-slice-aggregate-put-field
 slice-aggregate-put-field c = search needs
 
-long-requires : tie.Need-long-requires
-long-requires c κs = search needs
-
-slice-aggregate-put-field-2 : tie.Need-slice-aggregate-put-field-2
-slice-aggregate-put-field-2 c = search needs
+cast-put-field : tie.Need-cast-put-field
+cast-put-field c = search needs
 
 put-field-requires : tie.Need-put-field-requires
 put-field-requires c κs = search needs
 
-slice-aggregate-put-field-3 : tie.Need-slice-aggregate-put-field-3
-slice-aggregate-put-field-3 c = search needs
+slice-aggregate-put-field-2 : tie.Need-slice-aggregate-put-field-2
+slice-aggregate-put-field-2 c = search needs
 
-long-requires-2 : tie.Need-long-requires-2
-long-requires-2 c κs = search needs
-
-slice-aggregate-put-field-4 : tie.Need-slice-aggregate-put-field-4
-slice-aggregate-put-field-4 c = search needs
+cast-put-field-2 : tie.Need-cast-put-field-2
+cast-put-field-2 c = search needs
 
 put-field-requires-2 : tie.Need-put-field-requires-2
 put-field-requires-2 c κs = search needs
-
-slice-aggregate-put-field-5 : tie.Need-slice-aggregate-put-field-5
-slice-aggregate-put-field-5 c = search needs
-
-longer-requires : tie.Need-longer-requires
-longer-requires c κs = search needs
-
-slice-aggregate-put-field-6 : tie.Need-slice-aggregate-put-field-6
-slice-aggregate-put-field-6 c = search needs
-
-put-field-requires-3 : tie.Need-put-field-requires-3
-put-field-requires-3 c κs = search needs
-
-slice-aggregate-put-field-7 : tie.Need-slice-aggregate-put-field-7
-slice-aggregate-put-field-7 c = search needs
-
-longer-requires-2 : tie.Need-longer-requires-2
-longer-requires-2 c κs = search needs
-
-slice-aggregate-put-field-8 : tie.Need-slice-aggregate-put-field-8
-slice-aggregate-put-field-8 c = search needs
-
-put-field-requires-4 : tie.Need-put-field-requires-4
-put-field-requires-4 c κs = search needs
 
 same-length : tie.Need-same-length
 same-length c = search needs
 
 returns : tie.Need-returns
-returns c = rw (c .before .before .before .before .before .before .before .before .before .before .before .before .before .before .before .before .before .before .before .before .before .before .before .before .before .long .ensures, c .before .before .before .before .before .before .before .before .before .before .before .before .before .before .before .before .before .before .long2 .ensures, c .before .before .before .before .before .before .before .before .before .before .before .longer .ensures, c .before .before .before .before .longer2 .ensures) at (put-then (put-then (put-then (c .before .before .before .before .before .before .before .before .before .before .before .before .before .before .before .before .before .before .before .before .before .before .before .put-field .ensures) (c .before .before .before .before .before .before .before .before .before .before .before .before .before .before .before .before .put-field2 .ensures)) (c .before .before .before .before .before .before .before .before .before .put-field3 .ensures)) (c .before .before .put-field4 .ensures))
+returns c = put-then (put-then (c .before .before .before .before .before .before .before .before .before .before .before .before .before .before .put-pointers .ensures) (c .before .before .before .before .before .before .before .before .put-field .ensures)) (c .before .before .put-field2 .ensures)
 
 pub put-numbers-spec : {M : Type 1} → statement M
 put-numbers-spec =
     tie.close
     (tie.spec
+    put-pointers-requires
     slice-aggregate-put-field
-    long-requires
-    slice-aggregate-put-field-2
+    cast-put-field
     put-field-requires
-    slice-aggregate-put-field-3
-    long-requires-2
-    slice-aggregate-put-field-4
+    slice-aggregate-put-field-2
+    cast-put-field-2
     put-field-requires-2
-    slice-aggregate-put-field-5
-    longer-requires
-    slice-aggregate-put-field-6
-    put-field-requires-3
-    slice-aggregate-put-field-7
-    longer-requires-2
-    slice-aggregate-put-field-8
-    put-field-requires-4
     same-length
     returns)
