@@ -1,16 +1,17 @@
 -- A recording in a buffer that becomes frame memory.
-use Prim.Native.Nat.{ℕ, _≤_}
+use Prim.Native.Nat.{ℕ, _+_, _*_, _≤_}
 use mathlib.Core.Path.{_≡_, refl, sym, ap, _∙_}
 use mathlib.Core.Bool.{Bool, true, false}
 use mathlib.Core.List.{List, [], _++_}
 use native.Mathlib.Omega.{arith}
-use lib.ListN.{length, take, replicate, length-append}
+use lib.ListN.{length, take, drop, replicate, length-append, length-replicate}
 use lib.Seq.{take-at}
 use Rattle.model.specs.Choice.{_=?_, if_then_else_, not-both}
 use Rattle.model.specs.Calls.{numberOf, setup, refused, freshState}
 use Rattle.model.specs.declared.Answer.{Answer}
+use Rattle.recording.specs.Parts.{part-length, take-zeros}
 use Rattle.recording.specs.Replay.{replay, replayFrame}
-use Rattle.recording.specs.Recording.{badRecording, ringlengthOf, framelengthOf, writeOf, budgetOf, ringOf, frameSize, headOf, replayed, replayedFrame, outcomeOf, frameBytes, Good, good, bad-head}
+use Rattle.recording.specs.Recording.{fileWords, length-words, badRecording, ringlengthOf, framelengthOf, writeOf, budgetOf, ringOf, frameSize, headOf, replayed, replayedFrame, outcomeOf, frameBytes, Good, good, bad-head}
 use Rattle.recording.specs.declared.Head.{Head}
 use Rattle.recording.specs.declared.Outcome.{Outcome}
 
@@ -35,6 +36,47 @@ module _ (file : List ℕ) (head : Head) (is : head ≡ headOf file) (fine : hea
     budget = budgetOf file;
   }
   head-words = is ∙ good-file .head-is
+
+  pub ringlength-is : head .ringlength ≡ ringlengthOf file
+  ringlength-is = ap (λ (h : Head). h .ringlength) head-words
+
+  pub framelength-is : head .framelength ≡ framelengthOf file
+  framelength-is = ap (λ (h : Head). h .framelength) head-words
+
+  -- its ring fits in a buffer; filled with the file's words, the buffer begins with the ring
+  module _ (buffer : List ℕ) (room : 4096 ≤ length buffer) where
+    pub ring-in : head .ringlength ≤ length buffer
+    ring-in = omega (arith, good-file .ring-most, ringlength-is)
+
+    pub words-in : 4 * (4 + length (take (head .ringlength) buffer)) ≤ length file
+    words-in = omega (arith, good-file .length-is, ringlength-is, part-length (head .ringlength) buffer ring-in)
+
+    module _ (words : List ℕ) (words-are : words ≡ fileWords file 4 (length (take (head .ringlength) buffer))) where
+      ring-words : words ≡ fileWords file 4 (head .ringlength)
+      ring-words = words-are ∙ ap (fileWords file 4) (sym (part-length (head .ringlength) buffer ring-in))
+
+      ring-length : length words ≡ head .ringlength
+      ring-length = ap length ring-words ∙ length-words file (head .ringlength) 4
+
+      pub filled-in : head .ringlength ≤ length (words ++ drop (head .ringlength) buffer)
+      filled-in = omega (arith, ring-length, length-append words (drop (head .ringlength) buffer))
+
+      pub filled-is : take (head .ringlength) (words ++ drop (head .ringlength) buffer) ≡ ringOf file
+      filled-is =
+          take-at words (drop (head .ringlength) buffer) (head .ringlength) ring-length
+          ∙ ring-words ∙ ap (fileWords file 4) ringlength-is
+
+  -- and its frame memory in a buffer of zeros
+  module _ (memory zeros : List ℕ) (room : 32768 ≤ length memory) (are : zeros ≡ replicate (length memory) 0) where
+    pub frame-in : head .framelength ≤ length zeros
+    frame-in =
+        omega (arith, good-file .frame-most, framelength-is, ap length are, length-replicate {A = ℕ} (length memory) 0)
+
+    pub frame-zeros : take (head .framelength) zeros ≡ replicate (framelengthOf file) 0
+    frame-zeros =
+        ap (take (head .framelength)) are
+        ∙ take-zeros (head .framelength) (length memory) (omega (arith, good-file .frame-most, framelength-is))
+        ∙ ap (λ (k : ℕ). replicate k 0) framelength-is
 
 -- ---- the outcome
 

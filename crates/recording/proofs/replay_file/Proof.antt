@@ -1,13 +1,10 @@
-use Rattle.recording.specs.Parts.{part-length, take-zeros}
+use mathlib.Core.Path.{ap, _∙_}
 use Prim.Native.Nat.{ℕ}
-use mathlib.Core.Path.{_≡_, refl, sym, ap, _∙_}
-use native.Mathlib.Omega.{arith}
 use denote.Ref.{now}
-use lib.ListN.{length, take, drop, replicate, length-take, length-append, length-replicate}
-use lib.Seq.{take-at}
-use Rattle.recording.specs.Recording.{fileWords, length-words, outcomeOf, frameBytes, replayed, replayedFrame}
+use lib.ListN.{length, take, drop, length-replicate}
 use Rattle.recording.specs.declared.Head.{Head}
-use Rattle.recording.proofs.Files.{fine-file, good-file, head-words, replayed-is, replayed-frame, file-outcome, bad-file, bad-outcome}
+use Rattle.recording.specs.Parts.{part-length}
+use Rattle.recording.proofs.Files.{fine-file, head-words, ringlength-is, framelength-is, ring-in, words-in, filled-in, filled-is, frame-in, frame-zeros, replayed-is, replayed-frame, file-outcome, bad-file, bad-outcome}
 use borrow.Author.Needs.{needs}
 use Rattle.recording.proofs.replay_file.Statement.{statement}
 use Rattle.recording.proofs.replay_file.Tie as tie
@@ -39,76 +36,28 @@ slice-aggregate-read-words : tie.Need-slice-aggregate-read-words
 slice-aggregate-read-words c = part-length (c .before .before .before .before .before .before .args .n) (now (c .before .before .before .before .before .before .args .memory)) (c .before .before .before .before .before .before .pre .0)
 
 slice-relend-prefix-read-words : tie.Need-slice-relend-prefix-read-words
-slice-relend-prefix-read-words c =
-    let file = take (c .before .before .before .before .before .before .args .n) (now (c .before .before .before .before .before .before .args .memory)) in
-    let g = good-file file (c .before .before .head-of .result) (c .before .before .head-of .ensures) (c .before .if1 .left) in
-    let w = head-words file (c .before .before .head-of .result) (c .before .before .head-of .ensures) (c .before .if1 .left) in
-    let ringlength = ap (λ (h : Head). h .ringlength) w in
-    let framelength = ap (λ (h : Head). h .framelength) w in
-    omega (arith, g .ring-most, c .before .before .before .before .before .before .pre .2)
+slice-relend-prefix-read-words c = ring-in (take (c .before .before .before .before .before .before .args .n) (now (c .before .before .before .before .before .before .args .memory))) (c .before .before .head-of .result) (c .before .before .head-of .ensures) (c .before .if1 .left) (now (c .before .before .before .before .before .before .args .ring)) (c .before .before .before .before .before .before .pre .2)
 
 slice-aggregate-read-words-2 : tie.Need-slice-aggregate-read-words-2
-slice-aggregate-read-words-2 c =
-    let file = take (c .before .before .before .before .before .before .before .args .n) (now (c .before .before .before .before .before .before .before .args .memory)) in
-    let g = good-file file (c .before .before .before .head-of .result) (c .before .before .before .head-of .ensures) (c .before .before .if1 .left) in
-    let w = head-words file (c .before .before .before .head-of .result) (c .before .before .before .head-of .ensures) (c .before .before .if1 .left) in
-    let ringlength = ap (λ (h : Head). h .ringlength) w in
-    let framelength = ap (λ (h : Head). h .framelength) w in
-    part-length _ _ (omega (arith, g .ring-most, c .before .before .before .before .before .before .before .pre .2))
+slice-aggregate-read-words-2 c = part-length _ _ (ring-in (take (c .before .before .before .before .before .before .before .args .n) (now (c .before .before .before .before .before .before .before .args .memory))) (c .before .before .before .head-of .result) (c .before .before .before .head-of .ensures) (c .before .before .if1 .left) (now (c .before .before .before .before .before .before .before .args .ring)) (c .before .before .before .before .before .before .before .pre .2))
 
 read-words-requires : tie.Need-read-words-requires
-read-words-requires c κs =
-    let file = take (c .before .before .before .before .before .before .before .args .n) (now (c .before .before .before .before .before .before .before .args .memory)) in
-    let g = good-file file (c .before .before .before .head-of .result) (c .before .before .before .head-of .ensures) (c .before .before .if1 .left) in
-    let w = head-words file (c .before .before .before .head-of .result) (c .before .before .before .head-of .ensures) (c .before .before .if1 .left) in
-    let ringlength = ap (λ (h : Head). h .ringlength) w in
-    let framelength = ap (λ (h : Head). h .framelength) w in
-    omega (arith, g .length-is, length-take (c .before .before .before .head-of .result .ringlength) (now (c .before .before .before .before .before .before .before .args .ring)))
+read-words-requires c κs = words-in (take (c .before .before .before .before .before .before .before .args .n) (now (c .before .before .before .before .before .before .before .args .memory))) (c .before .before .before .head-of .result) (c .before .before .before .head-of .ensures) (c .before .before .if1 .left) (now (c .before .before .before .before .before .before .before .args .ring)) (c .before .before .before .before .before .before .before .pre .2)
 
 clear-requires : tie.Need-clear-requires
 clear-requires c κs = search needs
 
 slice-reshare-prefix-replay : tie.Need-slice-reshare-prefix-replay
-slice-reshare-prefix-replay c =
-    let file = take (c .before .before .before .before .before .before .before .before .before .before .before .before .before .before .args .n) (now (c .before .before .before .before .before .before .before .before .before .before .before .before .before .before .args .memory)) in
-    let g = good-file file (c .before .before .before .before .before .before .before .before .before .before .head-of .result) (c .before .before .before .before .before .before .before .before .before .before .head-of .ensures) (c .before .before .before .before .before .before .before .before .before .if1 .left) in
-    let w = head-words file (c .before .before .before .before .before .before .before .before .before .before .head-of .result) (c .before .before .before .before .before .before .before .before .before .before .head-of .ensures) (c .before .before .before .before .before .before .before .before .before .if1 .left) in
-    let ringlength = ap (λ (h : Head). h .ringlength) w in
-    let framelength = ap (λ (h : Head). h .framelength) w in
-    let part = part-length (c .before .before .before .before .before .before .before .before .before .before .head-of .result .ringlength) (now (c .before .before .before .before .before .before .before .before .before .before .before .before .before .before .args .ring)) (omega (arith, g .ring-most, c .before .before .before .before .before .before .before .before .before .before .before .before .before .before .pre .2)) in
-    let words = c .before .before .before .before .before .before .read-words .ensures ∙ ap (fileWords file 4) (sym part) in
-    let size : length (c .before .before .before .before .before .before .read-words .last .1 .0) ≡ c .before .before .before .before .before .before .before .before .before .before .head-of .result .ringlength = ap length words ∙ length-words file (c .before .before .before .before .before .before .before .before .before .before .head-of .result .ringlength) 4 in
-    omega (arith, length-append (c .before .before .before .before .before .before .read-words .last .1 .0) (drop (c .before .before .before .before .before .before .before .before .before .before .head-of .result .ringlength) (now (c .before .before .before .before .before .before .before .before .before .before .before .before .before .before .args .ring))))
+slice-reshare-prefix-replay c = filled-in (take (c .before .before .before .before .before .before .before .before .before .before .before .before .before .before .args .n) (now (c .before .before .before .before .before .before .before .before .before .before .before .before .before .before .args .memory))) (c .before .before .before .before .before .before .before .before .before .before .head-of .result) (c .before .before .before .before .before .before .before .before .before .before .head-of .ensures) (c .before .before .before .before .before .before .before .before .before .if1 .left) (now (c .before .before .before .before .before .before .before .before .before .before .before .before .before .before .args .ring)) (c .before .before .before .before .before .before .before .before .before .before .before .before .before .before .pre .2) (c .before .before .before .before .before .before .read-words .last .1 .0) (c .before .before .before .before .before .before .read-words .ensures)
 
 slice-aggregate-replay : tie.Need-slice-aggregate-replay
-slice-aggregate-replay c =
-    let file = take (c .before .before .before .before .before .before .before .before .before .before .before .before .before .before .before .args .n) (now (c .before .before .before .before .before .before .before .before .before .before .before .before .before .before .before .args .memory)) in
-    let g = good-file file (c .before .before .before .before .before .before .before .before .before .before .before .head-of .result) (c .before .before .before .before .before .before .before .before .before .before .before .head-of .ensures) (c .before .before .before .before .before .before .before .before .before .before .if1 .left) in
-    let w = head-words file (c .before .before .before .before .before .before .before .before .before .before .before .head-of .result) (c .before .before .before .before .before .before .before .before .before .before .before .head-of .ensures) (c .before .before .before .before .before .before .before .before .before .before .if1 .left) in
-    let ringlength = ap (λ (h : Head). h .ringlength) w in
-    let framelength = ap (λ (h : Head). h .framelength) w in
-    let part = part-length (c .before .before .before .before .before .before .before .before .before .before .before .head-of .result .ringlength) (now (c .before .before .before .before .before .before .before .before .before .before .before .before .before .before .before .args .ring)) (omega (arith, g .ring-most, c .before .before .before .before .before .before .before .before .before .before .before .before .before .before .before .pre .2)) in
-    let words = c .before .before .before .before .before .before .before .read-words .ensures ∙ ap (fileWords file 4) (sym part) in
-    let size : length (c .before .before .before .before .before .before .before .read-words .last .1 .0) ≡ c .before .before .before .before .before .before .before .before .before .before .before .head-of .result .ringlength = ap length words ∙ length-words file (c .before .before .before .before .before .before .before .before .before .before .before .head-of .result .ringlength) 4 in
-    sym (ap length (take-at (c .before .before .before .before .before .before .before .read-words .last .1 .0) (drop (c .before .before .before .before .before .before .before .before .before .before .before .head-of .result .ringlength) (now (c .before .before .before .before .before .before .before .before .before .before .before .before .before .before .before .args .ring))) (c .before .before .before .before .before .before .before .before .before .before .before .head-of .result .ringlength) size) ∙ size)
+slice-aggregate-replay c = part-length _ _ (filled-in (take (c .before .before .before .before .before .before .before .before .before .before .before .before .before .before .before .args .n) (now (c .before .before .before .before .before .before .before .before .before .before .before .before .before .before .before .args .memory))) (c .before .before .before .before .before .before .before .before .before .before .before .head-of .result) (c .before .before .before .before .before .before .before .before .before .before .before .head-of .ensures) (c .before .before .before .before .before .before .before .before .before .before .if1 .left) (now (c .before .before .before .before .before .before .before .before .before .before .before .before .before .before .before .args .ring)) (c .before .before .before .before .before .before .before .before .before .before .before .before .before .before .before .pre .2) (c .before .before .before .before .before .before .before .read-words .last .1 .0) (c .before .before .before .before .before .before .before .read-words .ensures))
 
 slice-relend-prefix-replay : tie.Need-slice-relend-prefix-replay
-slice-relend-prefix-replay c =
-    let file = take (c .before .before .before .before .before .before .before .before .before .before .before .before .before .before .before .args .n) (now (c .before .before .before .before .before .before .before .before .before .before .before .before .before .before .before .args .memory)) in
-    let g = good-file file (c .before .before .before .before .before .before .before .before .before .before .before .head-of .result) (c .before .before .before .before .before .before .before .before .before .before .before .head-of .ensures) (c .before .before .before .before .before .before .before .before .before .before .if1 .left) in
-    let w = head-words file (c .before .before .before .before .before .before .before .before .before .before .before .head-of .result) (c .before .before .before .before .before .before .before .before .before .before .before .head-of .ensures) (c .before .before .before .before .before .before .before .before .before .before .if1 .left) in
-    let ringlength = ap (λ (h : Head). h .ringlength) w in
-    let framelength = ap (λ (h : Head). h .framelength) w in
-    omega (arith, g .frame-most, c .before .before .before .before .before .before .before .before .before .before .before .before .before .before .before .pre .1, ap length (c .before .before .before .clear .ensures), length-replicate {A = ℕ} (length (now (c .before .before .before .before .before .before .before .before .before .before .before .before .before .before .before .args .memory))) 0)
+slice-relend-prefix-replay c = frame-in (take (c .before .before .before .before .before .before .before .before .before .before .before .before .before .before .before .args .n) (now (c .before .before .before .before .before .before .before .before .before .before .before .before .before .before .before .args .memory))) (c .before .before .before .before .before .before .before .before .before .before .before .head-of .result) (c .before .before .before .before .before .before .before .before .before .before .before .head-of .ensures) (c .before .before .before .before .before .before .before .before .before .before .if1 .left) (now (c .before .before .before .before .before .before .before .before .before .before .before .before .before .before .before .args .memory)) (c .before .before .before .clear .last .0) (c .before .before .before .before .before .before .before .before .before .before .before .before .before .before .before .pre .1) (c .before .before .before .clear .ensures)
 
 slice-aggregate-replay-2 : tie.Need-slice-aggregate-replay-2
-slice-aggregate-replay-2 c =
-    let file = take (c .before .before .before .before .before .before .before .before .before .before .before .before .before .before .before .before .args .n) (now (c .before .before .before .before .before .before .before .before .before .before .before .before .before .before .before .before .args .memory)) in
-    let g = good-file file (c .before .before .before .before .before .before .before .before .before .before .before .before .head-of .result) (c .before .before .before .before .before .before .before .before .before .before .before .before .head-of .ensures) (c .before .before .before .before .before .before .before .before .before .before .before .if1 .left) in
-    let w = head-words file (c .before .before .before .before .before .before .before .before .before .before .before .before .head-of .result) (c .before .before .before .before .before .before .before .before .before .before .before .before .head-of .ensures) (c .before .before .before .before .before .before .before .before .before .before .before .if1 .left) in
-    let ringlength = ap (λ (h : Head). h .ringlength) w in
-    let framelength = ap (λ (h : Head). h .framelength) w in
-    part-length _ (c .before .before .before .before .clear .last .0) (omega (arith, g .frame-most, c .before .before .before .before .before .before .before .before .before .before .before .before .before .before .before .before .pre .1, ap length (c .before .before .before .before .clear .ensures), length-replicate {A = ℕ} (length (now (c .before .before .before .before .before .before .before .before .before .before .before .before .before .before .before .before .args .memory))) 0))
+slice-aggregate-replay-2 c = part-length _ _ (frame-in (take (c .before .before .before .before .before .before .before .before .before .before .before .before .before .before .before .before .args .n) (now (c .before .before .before .before .before .before .before .before .before .before .before .before .before .before .before .before .args .memory))) (c .before .before .before .before .before .before .before .before .before .before .before .before .head-of .result) (c .before .before .before .before .before .before .before .before .before .before .before .before .head-of .ensures) (c .before .before .before .before .before .before .before .before .before .before .before .if1 .left) (now (c .before .before .before .before .before .before .before .before .before .before .before .before .before .before .before .before .args .memory)) (c .before .before .before .before .clear .last .0) (c .before .before .before .before .before .before .before .before .before .before .before .before .before .before .before .before .pre .1) (c .before .before .before .before .clear .ensures))
 
 replay-requires : tie.Need-replay-requires
 replay-requires c κs = search needs
@@ -125,22 +74,17 @@ same-length-3 c = search needs
 returns-2 : tie.Need-returns-2
 returns-2 c =
     let file = take (c .before .before .before .before .before .before .before .before .before .before .before .before .before .before .before .before .before .before .before .before .args .n) (now (c .before .before .before .before .before .before .before .before .before .before .before .before .before .before .before .before .before .before .before .before .args .memory)) in
-    let g = good-file file (c .before .before .before .before .before .before .before .before .before .before .before .before .before .before .before .before .head-of .result) (c .before .before .before .before .before .before .before .before .before .before .before .before .before .before .before .before .head-of .ensures) (c .before .before .before .before .before .before .before .before .before .before .before .before .before .before .before .if1 .left) in
-    let w = head-words file (c .before .before .before .before .before .before .before .before .before .before .before .before .before .before .before .before .head-of .result) (c .before .before .before .before .before .before .before .before .before .before .before .before .before .before .before .before .head-of .ensures) (c .before .before .before .before .before .before .before .before .before .before .before .before .before .before .before .if1 .left) in
-    let ringlength = ap (λ (h : Head). h .ringlength) w in
-    let framelength = ap (λ (h : Head). h .framelength) w in
-    let part = part-length (c .before .before .before .before .before .before .before .before .before .before .before .before .before .before .before .before .head-of .result .ringlength) (now (c .before .before .before .before .before .before .before .before .before .before .before .before .before .before .before .before .before .before .before .before .args .ring)) (omega (arith, g .ring-most, c .before .before .before .before .before .before .before .before .before .before .before .before .before .before .before .before .before .before .before .before .pre .2)) in
-    let words = c .before .before .before .before .before .before .before .before .before .before .before .before .read-words .ensures ∙ ap (fileWords file 4) (sym part) in
-    let size : length (c .before .before .before .before .before .before .before .before .before .before .before .before .read-words .last .1 .0) ≡ c .before .before .before .before .before .before .before .before .before .before .before .before .before .before .before .before .head-of .result .ringlength = ap length words ∙ length-words file (c .before .before .before .before .before .before .before .before .before .before .before .before .before .before .before .before .head-of .result .ringlength) 4 in
-    let ring = take-at (c .before .before .before .before .before .before .before .before .before .before .before .before .read-words .last .1 .0) (drop (c .before .before .before .before .before .before .before .before .before .before .before .before .before .before .before .before .head-of .result .ringlength) (now (c .before .before .before .before .before .before .before .before .before .before .before .before .before .before .before .before .before .before .before .before .args .ring))) (c .before .before .before .before .before .before .before .before .before .before .before .before .before .before .before .before .head-of .result .ringlength) size ∙ words ∙ ap (fileWords file 4) ringlength in
-    let zeros = ap (take (c .before .before .before .before .before .before .before .before .before .before .before .before .before .before .before .before .head-of .result .framelength)) (c .before .before .before .before .before .before .before .before .clear .ensures)
-    ∙ take-zeros (c .before .before .before .before .before .before .before .before .before .before .before .before .before .before .before .before .head-of .result .framelength) (length (now (c .before .before .before .before .before .before .before .before .before .before .before .before .before .before .before .before .before .before .before .before .args .memory))) (omega (arith, g .frame-most, c .before .before .before .before .before .before .before .before .before .before .before .before .before .before .before .before .before .before .before .before .pre .1))
-    ∙ ap (λ (k : ℕ). replicate k 0) framelength in
+    let head = c .before .before .before .before .before .before .before .before .before .before .before .before .before .before .before .before .head-of .result in
+    let is = c .before .before .before .before .before .before .before .before .before .before .before .before .before .before .before .before .head-of .ensures in
+    let fine = c .before .before .before .before .before .before .before .before .before .before .before .before .before .before .before .if1 .left in
+    let w = head-words file head is fine in
+    let ring = filled-is file head is fine (now (c .before .before .before .before .before .before .before .before .before .before .before .before .before .before .before .before .before .before .before .before .args .ring)) (c .before .before .before .before .before .before .before .before .before .before .before .before .before .before .before .before .before .before .before .before .pre .2) (c .before .before .before .before .before .before .before .before .before .before .before .before .read-words .last .1 .0) (c .before .before .before .before .before .before .before .before .before .before .before .before .read-words .ensures) in
+    let zeros = frame-zeros file head is fine (now (c .before .before .before .before .before .before .before .before .before .before .before .before .before .before .before .before .before .before .before .before .args .memory)) (c .before .before .before .before .before .before .before .before .clear .last .0) (c .before .before .before .before .before .before .before .before .before .before .before .before .before .before .before .before .before .before .before .before .pre .1) (c .before .before .before .before .before .before .before .before .clear .ensures) in
     let write = ap (λ (h : Head). h .write) w in
     let budget = ap (λ (h : Head). h .budget) w in
-    file-outcome file (c .before .before .before .replay .last .1 .0) (drop (c .before .before .before .before .before .before .before .before .before .before .before .before .before .before .before .before .head-of .result .framelength) (c .before .before .before .before .before .before .before .before .clear .last .0)) (c .before .before .before .replay .result) (c .frame-size .result)
-    (fine-file file (c .before .before .before .before .before .before .before .before .before .before .before .before .before .before .before .before .head-of .result) (c .before .before .before .before .before .before .before .before .before .before .before .before .before .before .before .before .head-of .ensures) (c .before .before .before .before .before .before .before .before .before .before .before .before .before .before .before .if1 .left))
-    (rw (ringlength, framelength) at (c .frame-size .ensures))
+    file-outcome file (c .before .before .before .replay .last .1 .0) (drop (head .framelength) (c .before .before .before .before .before .before .before .before .clear .last .0)) (c .before .before .before .replay .result) (c .frame-size .result)
+    (fine-file file head is fine)
+    (rw (ringlength-is file head is fine, framelength-is file head is fine) at (c .frame-size .ensures))
     (c .before .before .before .replay .ensures .0 ∙ replayed-is file _ _ _ _ ring zeros write budget)
     (c .before .before .before .replay .ensures .1 ∙ replayed-frame file _ _ _ _ ring zeros write budget)
     (c .before .before .before .replay .kept .1 .0 ∙ ap length zeros ∙ length-replicate _ 0)
