@@ -4,3 +4,4 @@ pub mod Crc
 pub mod Recording
 pub mod Trace
 pub mod Input
+pub mod Example
