@@ -1,13 +1,15 @@
 -- What the programs ask of the engine (document 01, Shop cases: the replay program).
 use Prim.Native.Nat.{ℕ, _≤_}
-use mathlib.Core.Path.{_≡_}
-use mathlib.Core.Bool.{Bool, false, _||_}
+use mathlib.Core.Path.{_≡_, refl}
+use mathlib.Core.Bool.{Bool, true, false, _||_}
 use mathlib.Core.List.{List}
-use borrow.Author.Tests.{ltb-false}
+use borrow.Author.Tests.{ltb-false, eqb-false}
 use lib.ListN.{length}
 use Rattle.model.specs.Choice.{_<?_, _=?_, if_then_else_, neither}
-use Rattle.model.specs.Calls.{numberOf, setup, publish, run, runFrame, restart, askRoom}
+use Rattle.model.specs.Calls.{numberOf, setup, publish, runRefusal, ranAnswer, run, runFrame, restart, askRoom}
 use Rattle.model.specs.declared.State.{State}
+use Rattle.model.specs.declared.RunWord.{RunWord}
+use Rattle.model.specs.declared.Reply.the-variants.{Ran}
 use Rattle.model.specs.declared.Answer.{Answer}
 
 -- "a ring length above 4,096, a frame length above 32,768"
@@ -49,3 +51,19 @@ askedFrame op a s ring frame = if op =? 2 then runFrame ring s frame a else fram
 pub good-lengths : (r f : ℕ) → badLengths r f ≡ false → (r ≤ 4096) × (f ≤ 32768)
 good-lengths r f e =
     let n = neither (4096 <? r) (32768 <? f) e in (ltb-false 4096 r (n .0), ltb-false 32768 f (n .1))
+
+-- a replay that is not refused ends with its run's word
+pub ends-with-run : (ring frame : List ℕ) (p budget : ℕ) → numberOf (replay ring frame p budget .reply) ≡ 0
+    → (word : RunWord) × (units : ℕ) × (room : ℕ) × (replay ring frame p budget .reply ≡ Ran word units room)
+unfolding replay run ranAnswer
+ends-with-run ring frame p budget z =
+    go (numberOf (made ring frame .reply) =? 0) (numberOf (told ring frame p .reply) =? 0)
+    (runRefusal ring (told ring frame p .state) frame =? 0) refl refl refl
+  where
+    go : (a b c : Bool) → numberOf (made ring frame .reply) =? 0 ≡ a → numberOf (told ring frame p .reply) =? 0 ≡ b
+        → runRefusal ring (told ring frame p .state) frame =? 0 ≡ c
+        → (word : RunWord) × (units : ℕ) × (room : ℕ) × (replay ring frame p budget .reply ≡ Ran word units room)
+    go false b c ea eb ec = absurd (eqb-false _ _ ea (rw ea at z))
+    go true false c ea eb ec = absurd (eqb-false _ _ eb (rw (ea, eb) at z))
+    go true true false ea eb ec = absurd (eqb-false _ _ ec (rw (ea, eb, ec) at z))
+    go true true true ea eb ec = rw (ea, eb, ec) (_, _, _, refl)
