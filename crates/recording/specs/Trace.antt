@@ -67,11 +67,15 @@ recordsText (suc most) bytes t =
     let s = stepOf (take 12 bytes) t in
     s .text ++ (if s .more then recordsText most (drop 12 bytes) (s .held) else [])
 
--- setup and its line. Lengths above the programs' limits, or fewer than two words, are bad; a refused setup ends the trace.
+-- fewer than two words, or lengths above the programs' limits
+abbrev pub badBegin : List ℕ → Bool
+badBegin head = length head <? 8 || badLengths (fileWord head 0) (fileWord head 1)
+
+-- setup and its line; a refused setup ends the trace
 unfoldable pub beginOf : List ℕ → Stepped
 beginOf head =
     let answer = setup (fileWord head 0) (fileWord head 1) in
-    if length head <? 8 || badLengths (fileWord head 0) (fileWord head 1)
+    if badBegin head
     then record { text = badLine; more = false; held = held (freshState 0 0) [] [] }
     else record {
       text = callLine 0 answer;
@@ -145,12 +149,12 @@ module _ (head : List ℕ) where
   abbrev answer : Answer
   answer = setup (fileWord head 0) (fileWord head 1)
 
-  pub begin-bad : length head <? 8 || badLengths (fileWord head 0) (fileWord head 1) ≡ true
+  pub begin-bad : badBegin head ≡ true
       → beginOf head ≡ record { text = badLine; more = false; held = held (freshState 0 0) [] [] }
   unfolding beginOf
   begin-bad e = rw e
 
-  pub begin-good : length head <? 8 || badLengths (fileWord head 0) (fileWord head 1) ≡ false
+  pub begin-good : badBegin head ≡ false
       → beginOf head ≡ record {
         text = callLine 0 answer;
         more = numberOf (answer .reply) =? 0;
@@ -158,6 +162,9 @@ module _ (head : List ℕ) where
       }
   unfolding beginOf
   begin-good e = rw e
+
+  pub whole-begin : badBegin head ≡ false → 8 ≤ length head
+  whole-begin e = ltb-false (length head) 8 (neither (length head <? 8) _ e .0)
 
 -- an accepted setup keeps the lengths
 setup-lengths : (ringlength framelength : ℕ) → numberOf (setup ringlength framelength .reply) ≡ 0
@@ -178,9 +185,9 @@ pub record Begun (t : Held) : Type 0 where
   pub frame-most : t .state .core .framelength ≤ 32768
 
 pub begun : (head : List ℕ) → beginOf head .more ≡ true → Begun (beginOf head .held)
-begun head more = go (length head <? 8 || badLengths (fileWord head 0) (fileWord head 1)) refl
+begun head more = go (badBegin head) refl
   where
-    go : (b : Bool) → length head <? 8 || badLengths (fileWord head 0) (fileWord head 1) ≡ b → Begun (beginOf head .held)
+    go : (b : Bool) → badBegin head ≡ b → Begun (beginOf head .held)
     go true e = absurd (not-both false (rw (begin-bad head e) at more) refl)
     go false e =
         let l = good-lengths (fileWord head 0) (fileWord head 1) (neither (length head <? 8) _ e .1) in

@@ -8,7 +8,7 @@ ghost use Rattle.text.specs.Lines.{badLine};
 ghost use Rattle.text.specs.Buffers.{Holds};
 ghost use Rattle.recording.specs.Replay.{badLengths, replay, replayFrame, asked, askedFrame};
 ghost use Rattle.recording.specs.Recording.{fileWord, fileWords, badRecording, frameSize, headOf, outcomeOf, frameBytes, replayText};
-ghost use Rattle.recording.specs.Trace.{badRecord, held, stepOf, beginOf, Steps, Begins};
+ghost use Rattle.recording.specs.Trace.{badBegin, badRecord, held, callStep, stepOf, beginOf, Steps, Begins};
 ghost use Rattle.recording.specs.Crc.{crcBit, crcByte, crc32};
 ghost use Rattle.recording.specs.Input.{Within};
 use libc::STDIN_FILENO;
@@ -321,20 +321,29 @@ fn bad_begin(out: &mut [u8]) -> Step
     }
 }
 
+// Whether a trace has fewer than two words, or lengths that are too long.
+fn is_bad_begin(head: &[u8]) -> bool
+    ensures { λ r. ⌜ r ≡ badBegin (now (head .entry)) ⌝ }
+{
+    if head.len() < 8 {
+        return true;
+    }
+    let ringlength = word_at(head, 0) as usize;
+    let framelength = word_at(head, 1) as usize;
+    is_long(ringlength, framelength)
+}
+
 // Setup and its line, from a trace's first two words.
 pub fn trace_begin(head: &[u8], out: &mut [u8]) -> Step
     requires { ⌜ 512 ≤ length (now out) ⌝ }
     ensures { λ r. ⌜ Begins (beginOf (now (head .entry))) r (now (out .exit)) ⌝ }
 {
-    if head.len() < 8 {
+    let bad = is_bad_begin(head);
+    if bad {
         return bad_begin(out);
     }
     let ringlength = word_at(head, 0) as usize;
     let framelength = word_at(head, 1) as usize;
-    let long = is_long(ringlength, framelength);
-    if long {
-        return bad_begin(out);
-    }
     let made = engine::setup(ringlength, framelength);
     let length = text::call_line(0, made, out);
     let state = made.state;
@@ -360,6 +369,21 @@ fn is_bad_record(part: &[u8], ringlength: usize) -> bool
     }
     let at = word_at(part, 1) as usize;
     op == 0 && ringlength <= at
+}
+
+// The call of a record, and its line.
+fn call_step(op: u32, a: u32, s: State, ring: &[u32], frame: &mut [u8], out: &mut [u8]) -> Step
+    requires { ⌜ 512 ≤ length (now out) ⌝ }
+    ensures { λ r. ⌜ Steps (callStep op a (held s (now (ring .entry)) (now (frame .entry)))) r (now (ring .entry)) (now (frame .exit)) (now (out .exit)) ⌝ }
+{
+    let answer = ask(op, a, s, ring, frame);
+    let length = text::call_line(op, answer, out);
+    let state = answer.state;
+    Step {
+        more: true,
+        state,
+        length,
+    }
 }
 
 // One record: the next 12 bytes of a trace, or fewer where it ends. Its text stands in `out`.
@@ -395,15 +419,9 @@ pub fn trace_step(part: &[u8], s: State, ring: &mut [u32], frame: &mut [u8], out
             length: 0,
         };
     }
-    let answer = ask(op, a, s, ring, frame);
-    let length = text::call_line(op, answer, out);
-    let state = answer.state;
-    Step {
-        more: true,
-        state,
-        length,
-    }
+    call_step(op, a, s, ring, frame, out)
 }
+
 // ---- CRC-32, as zip and PNG have it
 
 fn wide(x: u8) -> u32

@@ -1,4 +1,4 @@
-use mathlib.Core.Path.{refl, sym, ap, _∙_}
+use mathlib.Core.Path.{refl, sym, _∙_}
 use native.Mathlib.Omega.{arith}
 use denote.Ref.{now}
 use lib.ListN.{length}
@@ -60,11 +60,8 @@ returns-3 c =
     rw (step-store (now (c .before .before .before .before .before .before .before .before .before .before .before .args .part)) (held (c .before .before .before .before .before .before .before .before .before .before .before .args .s) (now (c .before .before .before .before .before .before .before .before .before .before .before .args .ring)) (now (c .before .before .before .before .before .before .before .before .before .before .before .args .frame))) (c .before .before .before .before .before .before .if1 .left) (sym (c .before .before .before .before .before .is-bad-record .ensures) ∙ c .before .before .before .before .if2 .left) (sym (c .before .before .before .word-at .ensures) ∙ c .before .if3 .taken), ← c .before .before .word-at2 .ensures, ← c .word-at3 .ensures)
     (record { more-is = refl; held-is = refl; text-is = record { counts = (omega arith, refl); text-is = refl } })
 
-ask-requires : tie.Need-ask-requires
-ask-requires c κs = search needs
-
-call-line-requires : tie.Need-call-line-requires
-call-line-requires c κs = search needs
+call-step-requires : tie.Need-call-step-requires
+call-step-requires c κs = search needs
 
 same-length-5 : tie.Need-same-length-5
 same-length-5 c = search needs
@@ -77,8 +74,8 @@ same-length-7 c = search needs
 
 returns-4 : tie.Need-returns-4
 returns-4 c =
-    rw (step-call (now (c .before .before .before .before .before .before .before .before .before .before .before .before .before .before .before .before .before .before .before .before .args .part)) (held (c .before .before .before .before .before .before .before .before .before .before .before .before .before .before .before .before .before .before .before .before .args .s) (now (c .before .before .before .before .before .before .before .before .before .before .before .before .before .before .before .before .before .before .before .before .args .ring)) (now (c .before .before .before .before .before .before .before .before .before .before .before .before .before .before .before .before .before .before .before .before .args .frame))) (c .before .before .before .before .before .before .before .before .before .before .before .before .before .before .before .if1 .left) (sym (c .before .before .before .before .before .before .before .before .before .before .before .before .before .before .is-bad-record .ensures) ∙ c .before .before .before .before .before .before .before .before .before .before .before .before .before .if2 .left) (λ e. c .before .before .before .before .before .before .before .before .before .before .if3 .left (c .before .before .before .before .before .before .before .before .before .before .before .before .word-at .ensures ∙ e)), ← c .before .before .before .before .before .before .before .before .before .before .before .before .word-at .ensures, ← c .before .before .before .before .before .before .before .before .before .before .before .word-at2 .ensures, ← c .before .before .before .before .before .before .before .ask .ensures .0, ← c .before .before .before .before .before .before .before .ask .ensures .1)
-    (record { more-is = refl; held-is = refl; text-is = c .before .before .before .call-line .ensures })
+    rw (step-call (now (c .before .before .before .before .before .before .before .before .before .before .before .before .before .before .before .before .before .before .args .part)) (held (c .before .before .before .before .before .before .before .before .before .before .before .before .before .before .before .before .before .before .args .s) (now (c .before .before .before .before .before .before .before .before .before .before .before .before .before .before .before .before .before .before .args .ring)) (now (c .before .before .before .before .before .before .before .before .before .before .before .before .before .before .before .before .before .before .args .frame))) (c .before .before .before .before .before .before .before .before .before .before .before .before .before .if1 .left) (sym (c .before .before .before .before .before .before .before .before .before .before .before .before .is-bad-record .ensures) ∙ c .before .before .before .before .before .before .before .before .before .before .before .if2 .left) (λ e. c .before .before .before .before .before .before .before .before .if3 .left (c .before .before .before .before .before .before .before .before .before .before .word-at .ensures ∙ e)), ← c .before .before .before .before .before .before .before .before .before .before .word-at .ensures, ← c .before .before .before .before .before .before .before .before .before .word-at2 .ensures)
+    (c .before .before .before .before .call-step .ensures)
 
 pub trace-step-spec : {M : Type 1} → statement M
 trace-step-spec =
@@ -101,8 +98,7 @@ trace-step-spec =
     slice-write-ring
     same-length-4
     returns-3
-    ask-requires
-    call-line-requires
+    call-step-requires
     same-length-5
     same-length-6
     same-length-7
