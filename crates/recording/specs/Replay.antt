@@ -16,25 +16,27 @@ use Rattle.model.specs.declared.Answer.{Answer}
 abbrev pub badLengths : ℕ → ℕ → Bool
 badLengths ringlength framelength = 4096 <? ringlength || 32768 <? framelength
 
--- "It does setup, one publish and one run": "the first refused call ends the replay"
+-- "one publish and one run": "the first refused call ends the replay"
+unfoldable pub played : List ℕ → State → List ℕ → ℕ → ℕ → Answer
+played ring s frame p budget =
+    if numberOf (publish s p .reply) =? 0 then run ring (publish s p .state) frame budget else publish s p
+
+-- and frame memory after it
+unfoldable pub playedFrame : List ℕ → State → List ℕ → ℕ → ℕ → List ℕ
+playedFrame ring s frame p budget =
+    if numberOf (publish s p .reply) =? 0 then runFrame ring (publish s p .state) frame budget else frame
+
+-- "It does setup, one publish and one run"
 abbrev pub made : List ℕ → List ℕ → Answer
 made ring frame = setup (length ring) (length frame)
 
-abbrev pub told : List ℕ → List ℕ → ℕ → Answer
-told ring frame p = publish (made ring frame .state) p
-
 unfoldable pub replay : List ℕ → List ℕ → ℕ → ℕ → Answer
 replay ring frame p budget =
-    if numberOf (made ring frame .reply) =? 0 then
-    (if numberOf (told ring frame p .reply) =? 0 then run ring (told ring frame p .state) frame budget else told ring frame p)
-    else made ring frame
+    if numberOf (made ring frame .reply) =? 0 then played ring (made ring frame .state) frame p budget else made ring frame
 
--- and frame memory after it
 unfoldable pub replayFrame : List ℕ → List ℕ → ℕ → ℕ → List ℕ
 replayFrame ring frame p budget =
-    if numberOf (made ring frame .reply) =? 0 then
-    (if numberOf (told ring frame p .reply) =? 0 then runFrame ring (told ring frame p .state) frame budget else frame)
-    else frame
+    if numberOf (made ring frame .reply) =? 0 then playedFrame ring (made ring frame .state) frame p budget else frame
 
 -- the call of a trace's record: 1 publish, 2 run, 3 room, else restart
 unfoldable pub asked : ℕ → ℕ → State → List ℕ → List ℕ → Answer

@@ -6,7 +6,7 @@ ghost use Rattle.model.specs.Calls.{refused, freshState};
 ghost use mathlib.Core.Bool.{true, false};
 ghost use Rattle.text.specs.Lines.{badLine};
 ghost use Rattle.text.specs.Buffers.{Holds};
-ghost use Rattle.recording.specs.Replay.{badLengths, replay, replayFrame, asked, askedFrame};
+ghost use Rattle.recording.specs.Replay.{badLengths, played, playedFrame, replay, replayFrame, asked, askedFrame};
 ghost use Rattle.recording.specs.Recording.{fileWord, fileWords, badRecording, frameSize, headOf, outcomeOf, frameBytes, replayText};
 ghost use Rattle.recording.specs.Trace.{badBegin, badRecord, held, callStep, stepOf, beginOf, Steps, Begins};
 ghost use Rattle.recording.specs.Crc.{crcBit, crcByte, crc32};
@@ -164,23 +164,30 @@ fn clear(bytes: &mut [u8])
     }
 }
 
+// One publish and one run: the answer of the run, or of the publish where it is refused.
+fn publish_and_run(ring: &[u32], s: State, frame: &mut [u8], write: usize, budget: u32) -> Answer
+    ensures { λ r. ⌜ (r ≡ played (now (ring .entry)) s (now (frame .entry)) write budget) × (now (frame .exit) ≡ playedFrame (now (ring .entry)) s (now (frame .entry)) write budget) ⌝ }
+{
+    let told = engine::publish(s, write);
+    let reply = told.reply;
+    let no = text::number_of(reply);
+    if no != 0 {
+        return told;
+    }
+    engine::run(ring, told.state, frame, budget)
+}
+
 // Setup, one publish and one run: the answer of the run, or of the first call that is refused.
 pub fn replay(ring: &[u32], frame: &mut [u8], write: usize, budget: u32) -> Answer
     ensures { λ r. ⌜ (r ≡ replay (now (ring .entry)) (now (frame .entry)) write budget) × (now (frame .exit) ≡ replayFrame (now (ring .entry)) (now (frame .entry)) write budget) ⌝ }
 {
     let made = engine::setup(ring.len(), frame.len());
-    let first = made.reply;
-    let no = text::number_of(first);
+    let reply = made.reply;
+    let no = text::number_of(reply);
     if no != 0 {
         return made;
     }
-    let told = engine::publish(made.state, write);
-    let second = told.reply;
-    let then = text::number_of(second);
-    if then != 0 {
-        return told;
-    }
-    engine::run(ring, told.state, frame, budget)
+    publish_and_run(ring, made.state, frame, write, budget)
 }
 
 // How much frame memory there is: none where setup is refused.

@@ -15,25 +15,15 @@ returns : tie.Need-returns
 unfolding replay replayFrame
 returns c = let e = ne-eqb _ _ (c .if1 .taken) in rw (← c .before .before .setup .ensures, ← c .before .number-of .ensures, e) (refl, refl)
 
-publish-requires : tie.Need-publish-requires
-publish-requires c κs = search needs
-
-number-of-requires-2 : tie.Need-number-of-requires-2
-number-of-requires-2 c κs = search needs
-
-returns-2 : tie.Need-returns-2
-unfolding replay replayFrame
-returns-2 c = let e = ne-eqb _ _ (c .if2 .taken) in let d = eq-eqb _ _ (c .before .before .before .if1 .left) in rw (← c .before .before .before .before .before .setup .ensures, ← c .before .before .before .before .number-of .ensures, d, ← c .before .before .publish .ensures, ← c .before .number-of2 .ensures, e) (refl, refl)
-
-run-requires : tie.Need-run-requires
-run-requires c κs = search needs
+publish-and-run-requires : tie.Need-publish-and-run-requires
+publish-and-run-requires c κs = search needs
 
 same-length : tie.Need-same-length
 same-length c = search needs
 
-returns-3 : tie.Need-returns-3
+returns-2 : tie.Need-returns-2
 unfolding replay replayFrame
-returns-3 c = let e = eq-eqb _ _ (c .before .before .before .before .if2 .left) in let d = eq-eqb _ _ (c .before .before .before .before .before .before .before .if1 .left) in rw (← c .before .before .before .before .before .before .before .before .before .setup .ensures, ← c .before .before .before .before .before .before .before .before .number-of .ensures, d, ← c .before .before .before .before .before .before .publish .ensures, ← c .before .before .before .before .before .number-of2 .ensures, e) (c .before .before .run .ensures)
+returns-2 c = let e = eq-eqb _ _ (c .before .before .before .before .if1 .left) in rw (← c .before .before .before .before .before .before .setup .ensures, ← c .before .before .before .before .before .number-of .ensures, e) (c .before .before .publish-and-run .ensures)
 
 pub replay-spec : {M : Type 1} → statement M
 replay-spec =
@@ -42,9 +32,6 @@ replay-spec =
     setup-requires
     number-of-requires
     returns
-    publish-requires
-    number-of-requires-2
-    returns-2
-    run-requires
+    publish-and-run-requires
     same-length
-    returns-3)
+    returns-2)
