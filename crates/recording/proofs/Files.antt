@@ -13,7 +13,6 @@ use Rattle.recording.specs.Parts.{part-length, take-zeros}
 use Rattle.recording.specs.Replay.{replay, replayFrame}
 use Rattle.recording.specs.Recording.{fileWords, length-words, badRecording, ringlengthOf, framelengthOf, writeOf, budgetOf, ringOf, frameSize, headOf, replayed, replayedFrame, outcomeOf, frameBytes, Good, good, bad-head}
 use Rattle.recording.specs.declared.Head.{Head}
-use Rattle.recording.specs.declared.Outcome.{Outcome}
 
 -- ---- a file whose head is not bad
 
@@ -83,13 +82,13 @@ module _ (file : List ℕ) (head : Head) (is : head ≡ headOf file) (fine : hea
 -- a replay of the file's ring on zeros
 module _ (file ring frame : List ℕ) (write budget : ℕ) (ring-is : ring ≡ ringOf file)
     (frame-is : frame ≡ replicate (framelengthOf file) 0) (write-is : write ≡ writeOf file) (budget-is : budget ≡ budgetOf file) where
-  pub replayed-is : replay ring frame write budget ≡ replayed file
+  pub replayed-is : {answer : Answer} → answer ≡ replay ring frame write budget → answer ≡ replayed file
   unfolding replayed
-  replayed-is = rw (ring-is, frame-is, write-is, budget-is)
+  replayed-is e = e ∙ rw (ring-is, frame-is, write-is, budget-is)
 
-  pub replayed-frame : replayFrame ring frame write budget ≡ replayedFrame file
+  pub replayed-frame : {after : List ℕ} → after ≡ replayFrame ring frame write budget → after ≡ replayedFrame file
   unfolding replayedFrame
-  replayed-frame = rw (ring-is, frame-is, write-is, budget-is)
+  replayed-frame e = e ∙ rw (ring-is, frame-is, write-is, budget-is)
 
 module _ (file frame rest : List ℕ) (answer : Answer) (size : ℕ) (fine : badRecording file ≡ false)
     (size-is : size ≡ frameSize (ringlengthOf file) (framelengthOf file)) (answer-is : answer ≡ replayed file)

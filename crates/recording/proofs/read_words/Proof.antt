@@ -1,11 +1,11 @@
 use borrow.Author.Needs.{needs}
-use Prim.Native.Nat.{ℕ, suc, _+_, _-_, _≤_, _<_}
+use Prim.Native.Nat.{ℕ, _-_, _≤_, _<_}
 use mathlib.Core.Path.{_≡_, refl, sym, ap, _∙_}
 use native.Mathlib.Numerals.{add-one}
 use native.Mathlib.Omega.{arith}
 use lib.ListN.{length, take, length-set}
 use lib.Seq.{take-suc-set, take-length}
-use Rattle.recording.specs.Recording.{fileWord, fileWords, fileWords-more}
+use Rattle.recording.specs.Recording.{fileWords, fileWords-more}
 use denote.Ref.{now}
 use Rattle.recording.proofs.read_words.Statement.{statement}
 use Rattle.recording.proofs.read_words.Tie as tie

@@ -1,5 +1,4 @@
 use mathlib.Core.Path.{ap, _∙_}
-use Prim.Native.Nat.{ℕ}
 use denote.Ref.{now}
 use lib.ListN.{length, take, drop, length-replicate}
 use Rattle.recording.specs.declared.Head.{Head}
@@ -85,8 +84,8 @@ returns-2 c =
     file-outcome file (c .before .before .before .replay .last .1 .0) (drop (head .framelength) (c .before .before .before .before .before .before .before .before .clear .last .0)) (c .before .before .before .replay .result) (c .frame-size .result)
     (fine-file file head is fine)
     (rw (ringlength-is file head is fine, framelength-is file head is fine) at (c .frame-size .ensures))
-    (c .before .before .before .replay .ensures .0 ∙ replayed-is file _ _ _ _ ring zeros write budget)
-    (c .before .before .before .replay .ensures .1 ∙ replayed-frame file _ _ _ _ ring zeros write budget)
+    (replayed-is file _ _ _ _ ring zeros write budget (c .before .before .before .replay .ensures .0))
+    (replayed-frame file _ _ _ _ ring zeros write budget (c .before .before .before .replay .ensures .1))
     (c .before .before .before .replay .kept .1 .0 ∙ ap length zeros ∙ length-replicate _ 0)
 
 pub replay-file-spec : {M : Type 1} → statement M

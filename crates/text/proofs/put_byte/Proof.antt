@@ -1,4 +1,3 @@
-use Rattle.text.specs.Buffers.{Put}
 use native.Mathlib.Numerals.{add-one}
 use native.Mathlib.Omega.{arith}
 use lib.Seq.{take-suc-set}

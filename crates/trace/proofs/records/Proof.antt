@@ -1,7 +1,6 @@
 use mathlib.Core.Path.{_≡_, refl, _∙_}
 use mathlib.Core.List.{[]}
 use borrow.Author.Needs.{needs}
-use denote.Ref.{now}
 use lib.ListN.{length}
 use Rattle.recording.specs.Trace.{held, beginOf, Reached, reached-then}
 use Rattle.trace.proofs.records.Statement.{statement}
