@@ -18,7 +18,7 @@ use Rattle.model.specs.Cases.{shopRing, shopFrame}
 use Rattle.text.specs.Ascii.{ascii}
 use Rattle.text.specs.Numerals.{decimal, hexadecimal}
 use Rattle.text.specs.Lines.{replayLines, askedItems, stateItems, callLine}
-use Rattle.recording.specs.Replay.{replay, replayFrame, asked, askedFrame}
+use Rattle.recording.specs.Replay.{played, playedFrame, replay, replayFrame, asked, askedFrame}
 use Rattle.recording.specs.Recording.{fileWord, badRecording, replayed, replayedFrame, replayText, frameBytes}
 use Rattle.recording.specs.Crc.{crcBit, crcByte, crcOver, crc32}
 use Rattle.recording.specs.Trace.{stepOf, beginOf, traceText}
@@ -58,5 +58,5 @@ pub record Example : Type 0 where
       ++ ascii "recording=bad\n"
 
 pub example : Example
-unfolding distance waiting room publishRefusal wordAt readPixel storePixel raster bltOf formatOf destinationByte sourceByte inkBit patternValue skipped sourceValue drawBlt kindOf badHeader badReturn headerRefusal whole loadWords loaded readAfter byteOutside some outside judge retired commandRefusal ready stopped loadedCore pixelCount drawPixel drawnCore unitAt unit possible units unfit runWord runRefusal runUnits ranAnswer run runFrame setup publish decimal replayLines replay replayFrame fileWord badRecording replayed replayedFrame replayText frameBytes restart askRoom asked askedFrame stepOf beginOf traceText callLine askedItems stateItems hexadecimal crcBit crcByte crcOver crc32
+unfolding distance waiting room publishRefusal wordAt readPixel storePixel raster bltOf formatOf destinationByte sourceByte inkBit patternValue skipped sourceValue drawBlt kindOf badHeader badReturn headerRefusal whole loadWords loaded readAfter byteOutside some outside judge retired commandRefusal ready stopped loadedCore pixelCount drawPixel drawnCore unitAt unit possible units unfit runWord runRefusal runUnits ranAnswer run runFrame setup publish decimal replayLines played playedFrame replay replayFrame fileWord badRecording replayed replayedFrame replayText frameBytes restart askRoom asked askedFrame stepOf beginOf traceText callLine askedItems stateItems hexadecimal crcBit crcByte crcOver crc32
 example = record { lines = refl; frame = refl; longer = refl; trace = refl; cut = refl }

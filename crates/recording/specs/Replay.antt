@@ -57,13 +57,15 @@ good-lengths r f e =
 -- a replay that is not refused ends with its run's word
 pub ends-with-run : (ring frame : List ℕ) (p budget : ℕ) → numberOf (replay ring frame p budget .reply) ≡ 0
     → (word : RunWord) × (units : ℕ) × (room : ℕ) × (replay ring frame p budget .reply ≡ Ran word units room)
-unfolding replay run ranAnswer
+unfolding replay played run ranAnswer
 ends-with-run ring frame p budget z =
-    go (numberOf (made ring frame .reply) =? 0) (numberOf (told ring frame p .reply) =? 0)
-    (runRefusal ring (told ring frame p .state) frame =? 0) refl refl refl
+    go (numberOf (made ring frame .reply) =? 0) (numberOf (told .reply) =? 0) (runRefusal ring (told .state) frame =? 0) refl refl refl
   where
-    go : (a b c : Bool) → numberOf (made ring frame .reply) =? 0 ≡ a → numberOf (told ring frame p .reply) =? 0 ≡ b
-        → runRefusal ring (told ring frame p .state) frame =? 0 ≡ c
+    told : Answer
+    told = publish (made ring frame .state) p
+
+    go : (a b c : Bool) → numberOf (made ring frame .reply) =? 0 ≡ a → numberOf (told .reply) =? 0 ≡ b
+        → runRefusal ring (told .state) frame =? 0 ≡ c
         → (word : RunWord) × (units : ℕ) × (room : ℕ) × (replay ring frame p budget .reply ≡ Ran word units room)
     go false b c ea eb ec = absurd (eqb-false _ _ ea (rw ea at z))
     go true false c ea eb ec = absurd (eqb-false _ _ eb (rw (ea, eb) at z))

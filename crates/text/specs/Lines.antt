@@ -32,7 +32,8 @@ runName Stopped = ascii "stopped"
 runName Waiting = ascii "waiting"
 runName Spent = ascii "spent"
 
--- "state=refused"; else the run's word. A replay does not end with a call that is accepted and is no run.
+-- "state=refused"; else the run's word. (A replay does not end with a call that is accepted and is no run: law `ends-with-run`
+-- of `recording`.)
 abbrev pub stateName : Reply → List ℕ
 stateName (Refused number) = ascii "refused"
 stateName (Accepted room) = ascii "waiting"
