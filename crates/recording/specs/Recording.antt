@@ -7,7 +7,7 @@ use mathlib.Core.List.{List, [], _∷_, _++_}
 use native.Mathlib.Omega.{arith}
 use native.Mathlib.Nat.{add-zero}
 use borrow.Author.Tests.{eqb-true, eq-eqb, ne-eqb, not-false}
-use lib.ListN.{length, replicate}
+use lib.ListN.{length, take, replicate, length-take}
 use Rattle.model.specs.Choice.{_=?_, if_then_else_, or-left, or-right, neither}
 use Rattle.model.specs.Pixel.{readPixel}
 use Rattle.model.specs.Calls.{numberOf, setup, freshState, refused}
@@ -143,6 +143,23 @@ good file e =
       frame-most = l .1;
       length-is = eqb-true _ _ (not-false _ (n .1));
     }
+
+-- a file longer than the longest recording is bad, and so is as much of it as a buffer of 32,768 bytes holds: what is written of
+-- the two is the same
+long-file : (file : List ℕ) → 16_400 < length file → badRecording file ≡ true
+long-file file h = go (badRecording file) refl
+  where
+    go : (b : Bool) → badRecording file ≡ b → badRecording file ≡ true
+    go true e = e
+    go false e = let g = good file e in absurd (omega arith)
+
+pub cut-file : (file : List ℕ) → 32_768 < length file
+    → (replayText (take 32_768 file) ≡ replayText file) × (frameBytes (take 32_768 file) ≡ frameBytes file)
+unfolding replayText frameBytes
+cut-file file h =
+    let part = long-file (take 32_768 file) (omega (arith, length-take 32_768 file)) in
+    let whole = long-file file (omega arith) in
+    (rw (part, whole), rw (part, whole))
 
 -- one word more
 pub fileWords-more : (file : List ℕ) (n from : ℕ) → fileWords file from (suc n) ≡ fileWords file from n ++ (fileWord file (from + n) ∷ [])
