@@ -1,7 +1,7 @@
 -- What `trace` writes, as a function of the file's bytes: little-endian words, ring length and frame length, then records of
 -- three words `op a b`.
 use Prim.Native.Nat.{ℕ, zero, suc, _+_, _-_, _≤_, _<_}
-use mathlib.Core.Path.{_≡_, refl, sym, ap, _∙_}
+use mathlib.Core.Path.{_≡_, refl, sym, ap, subst, _∙_}
 use mathlib.Core.Bool.{Bool, true, false, _&&_, _||_}
 use mathlib.Core.List.{List, [], _∷_, _++_, append-assoc, append-nil}
 use native.Mathlib.Omega.{arith}
@@ -275,13 +275,17 @@ more-whole part t e = go (length part =? 0) (badRecord part (length (t .ring))) 
     go false false ea eb = whole-record part (length (t .ring)) eb .0
 
 -- one part, and some parts after others
-pub step-reached : (part : List ℕ) (t : Held) → length part ≤ 12 → Reached t (stepOf part t .held)
+step-reached : (part : List ℕ) (t : Held) → length part ≤ 12 → Reached t (stepOf part t .held)
 step-reached part t l = go (stepOf part t .more) refl
   where
     go : (b : Bool) → stepOf part t .more ≡ b → Reached t (stepOf part t .held)
     go true e =
         let w = more-whole part t e in record { parts = part ∷ []; all-go = (omega arith, e, tt); after-is = refl }
     go false e = record { parts = []; all-go = tt; after-is = sym (last-keeps part t e) }
+
+pub steps-reached : (part : List ℕ) (t : Held) (r : Step) (ring frame out : List ℕ) → length part ≤ 12
+    → Steps (stepOf part t) r ring frame out → Reached t (held (r .state) ring frame)
+steps-reached part t r ring frame out l h = subst (Reached t) (sym (h .held-is)) (step-reached part t l)
 
 both-go : (ps qs : List (List ℕ)) (t : Held) → AllGo ps t → AllGo qs (heldAfter ps t)
     → AllGo (ps ++ qs) t × (heldAfter (ps ++ qs) t ≡ heldAfter qs (heldAfter ps t))

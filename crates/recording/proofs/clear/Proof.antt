@@ -27,7 +27,7 @@ loop-less : tie.Need-loop-less Inv-loop μ-loop
 loop-less c = search needs
 
 loop-again : tie.Need-loop-again Inv-loop μ-loop
-loop-again c = (omega arith, simp length-set (omega arith), let h : c .before .loop .i < length (c .before .loop .bytes) = omega arith in rw (add-one (c .before .loop .i), take-suc-set (c .before .loop .bytes) (c .before .loop .i) 0 h, c .before .loop .inv .2) (replicate-append-replicate (c .before .loop .i) 1 0 ∙ ap (λ (k : ℕ). replicate k 0) (add-one (c .before .loop .i))))
+loop-again c = (omega arith, simp length-set (omega arith), let h : c .before .loop .i < length (c .before .loop .bytes) = omega arith in rw (add-one (c .before .loop .i), take-suc-set (c .before .loop .bytes) (c .before .loop .i) _ h, c .before .loop .inv .2) (replicate-append-replicate (c .before .loop .i) 1 0 ∙ ap (λ (k : ℕ). replicate k 0) (add-one (c .before .loop .i))))
 
 same-length : tie.Need-same-length Inv-loop μ-loop
 same-length c = search needs

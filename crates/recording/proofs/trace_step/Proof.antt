@@ -57,8 +57,8 @@ same-length-4 c = search needs
 
 returns-3 : tie.Need-returns-3
 returns-3 c =
-    rw (step-store (now (c .before .before .before .before .before .before .before .before .before .before .before .args .part)) (held (c .before .before .before .before .before .before .before .before .before .before .before .args .s) (now (c .before .before .before .before .before .before .before .before .before .before .before .args .ring)) (now (c .before .before .before .before .before .before .before .before .before .before .before .args .frame))) (c .before .before .before .before .before .before .if1 .left) (sym (c .before .before .before .before .before .is-bad-record .ensures) ∙ c .before .before .before .before .if2 .left) (sym (c .before .before .before .word-at .ensures) ∙ c .before .if3 .taken), ← c .before .before .word-at2 .ensures, ← c .word-at3 .ensures)
-    (record { more-is = refl; held-is = refl; text-is = record { counts = (omega arith, refl); text-is = refl } })
+    rw (step-store (now (c .before .before .before .before .before .before .before .before .before .before .before .args .part)) (held (c .before .before .before .before .before .before .before .before .before .before .before .args .s) (now (c .before .before .before .before .before .before .before .before .before .before .before .args .ring)) (now (c .before .before .before .before .before .before .before .before .before .before .before .args .frame))) (c .before .before .before .before .before .before .if1 .left) (sym (c .before .before .before .before .before .is-bad-record .ensures) ∙ c .before .before .before .before .if2 .left) (sym (c .before .before .before .word-at .ensures) ∙ c .before .if3 .taken))
+    (record { more-is = refl; held-is = rw (c .before .before .word-at2 .ensures, c .word-at3 .ensures); text-is = record { counts = (omega arith, refl); text-is = refl } })
 
 call-step-requires : tie.Need-call-step-requires
 call-step-requires c κs = search needs

@@ -1,7 +1,7 @@
 use mathlib.Core.List.{List, [], _∷_, _++_, append-nil, append-assoc}
 use lib.ListN.{length, take, getD, length-set}
 use Prim.Native.Nat.{ℕ, suc, _+_, _-_, _≤_, _<_}
-use mathlib.Core.Path.{_≡_, refl, ap, _∙_}
+use mathlib.Core.Path.{_≡_, refl, sym, ap, _∙_}
 use native.Mathlib.Nat.{add-zero}
 use native.Mathlib.Numerals.{add-one}
 use native.Mathlib.Omega.{arith}
@@ -44,8 +44,11 @@ loop-again c =
     let z : a .at + (i + 1) ≡ suc (a .at + i) = omega arith in (
       omega arith,
       simp length-set (omega arith),
-      rw (z, add-one i, take-suc-set out (a .at + i) _ h, take-suc {A = ℕ} text i 0 k, c .before .before .loop .inv .2)
-          (append-assoc (take (a .at) (a .out .now)) (take i text) (getD text i 0 ∷ [])),
+      rw (z, add-one i)
+          (take-suc-set out (a .at + i) (getD text i 0) h
+          ∙ ap (λ (x : List ℕ). x ++ (getD text i 0 ∷ [])) (c .before .before .loop .inv .2)
+          ∙ append-assoc (take (a .at) (a .out .now)) (take i text) (getD text i 0 ∷ [])
+          ∙ ap (λ (x : List ℕ). take (a .at) (a .out .now) ++ x) (sym (take-suc {A = ℕ} text i 0 k))),
     )
 
 add-result : tie.Need-add-result Inv-loop μ-loop
