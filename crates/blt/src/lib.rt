@@ -5,14 +5,14 @@ ghost use Prim.Native.Nat.{_+_, _-_, _*_, _/_, _≤_, _<_};
 ghost use lib.ListN.{length};
 ghost use Rattle.model.specs.Choice.{if_then_else_};
 ghost use Rattle.model.specs.Pixel.{readPixel};
-ghost use Rattle.model.specs.Pattern.{patternBit, patternPlace};
+ghost use Rattle.model.specs.Pattern.{patternBit, patternIndex};
 ghost use Rattle.model.specs.Formats.{Depth};
 ghost use Rattle.model.specs.Bounds.{added, taken};
 ghost use Rattle.model.specs.BltPixel.{bltOf, rectangleOutside};
 ghost use Rattle.laws.specs.Order.{bltPixels};
 ghost use Rattle.laws.specs.Ranges.{Ranged, FitBlt};
 ghost use Rattle.laws.specs.Rows.{Inside, place, walk, Walk, toByte, fromByte, Within, dotted, inked, Row};
-ghost use Rattle.laws.specs.Fills.{stamped, lowest};
+ghost use Rattle.laws.specs.Fills.{filled, lowest};
 ghost use Rattle.pixel.specs.Prepared.{Prepared};
 ghost use Rattle.blt.specs.Ready.{Ready};
 use model::Blt;
@@ -187,9 +187,9 @@ fn dot(f: &mut [u8], op: Operation, reads: bool, foreground: u32, depth: usize, 
 // The mono pattern's bit in a pattern row, i pixels on from the pattern's first column.
 fn ink_of(b: Blt, row: usize, i: usize) -> u32
     requires { ⌜ (b .column < 8) × (row < 8) × (i < 4294967296) ⌝ }
-    ensures { λ r. ⌜ (r ≡ patternBit (b .data0) (b .data1) row (patternPlace (b .left) (b .column) i)) × (r < 2) ⌝ }
+    ensures { λ r. ⌜ (r ≡ patternBit (b .data0) (b .data1) row (patternIndex (b .left) (b .column) i)) × (r < 2) ⌝ }
 {
-    let column = pixel::pattern_place(b.left, b.column, i);
+    let column = pixel::pattern_index(b.left, b.column, i);
     pixel::pattern_bit(b.data0, b.data1, row, column)
 }
 
@@ -261,7 +261,7 @@ fn mono_row(f: &mut [u8], b: Blt, k: usize, n: usize)
     let to = to_byte(size, b, k);
     let from = from_byte(size, b, k);
     let width = b.width;
-    let row = pixel::pattern_place(b.up, b.row, k / width);
+    let row = pixel::pattern_index(b.up, b.row, k / width);
     let first = k % width;
     let mut i = 0;
     let mut by = 0;
@@ -279,7 +279,7 @@ fn mono_row(f: &mut [u8], b: Blt, k: usize, n: usize)
 
 // Stores a value at each pixel of a row, at one byte a pixel.
 fn fill_row1(row: &mut [u8], value: u32)
-    ensures { λ _. ⌜ now (row .exit) ≡ stamped 1 value (length (now (row .entry)) / 1) 0 (now (row .entry)) ⌝ }
+    ensures { λ _. ⌜ now (row .exit) ≡ filled 1 value (length (now (row .entry)) / 1) 0 (now (row .entry)) ⌝ }
 {
     let n = row.len();
     let mut i = 0;
@@ -291,7 +291,7 @@ fn fill_row1(row: &mut [u8], value: u32)
 
 // The same at two bytes a pixel.
 fn fill_row2(row: &mut [u8], value: u32)
-    ensures { λ _. ⌜ now (row .exit) ≡ stamped 2 value (length (now (row .entry)) / 2) 0 (now (row .entry)) ⌝ }
+    ensures { λ _. ⌜ now (row .exit) ≡ filled 2 value (length (now (row .entry)) / 2) 0 (now (row .entry)) ⌝ }
 {
     let n = row.len() / 2;
     let mut i = 0;
@@ -303,7 +303,7 @@ fn fill_row2(row: &mut [u8], value: u32)
 
 // The same at four.
 fn fill_row4(row: &mut [u8], value: u32)
-    ensures { λ _. ⌜ now (row .exit) ≡ stamped 4 value (length (now (row .entry)) / 4) 0 (now (row .entry)) ⌝ }
+    ensures { λ _. ⌜ now (row .exit) ≡ filled 4 value (length (now (row .entry)) / 4) 0 (now (row .entry)) ⌝ }
 {
     let n = row.len() / 4;
     let mut i = 0;

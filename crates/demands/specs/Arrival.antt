@@ -18,7 +18,7 @@ use Rattle.model.specs.declared.Core.{Core}
 use Rattle.model.specs.declared.Kind.{Kind}
 use Rattle.model.specs.declared.Place.{Place}
 use Rattle.model.specs.declared.Place.the-variants.{Idle, Drawing}
-use Rattle.laws.specs.Circle.{distance-sum, distance-next}
+use Rattle.laws.specs.Modular.{distance-sum, distance-next}
 use Rattle.laws.specs.Units.{units-zero, units-stop, units-step}
 use Rattle.laws.specs.Fit.{accepted-header}
 use Rattle.demands.specs.Waits.{ready-header, ready-whole, idle-ready}

@@ -9,16 +9,16 @@ use Rattle.model.specs.Choice.{_<?_, _≤?_, _=?_, if_then_else_}
 use Rattle.model.specs.Ring.{waiting, distance, publishRefusal}
 use Rattle.model.specs.Unit.{Machine, Done, unit, possible, units}
 use Rattle.model.specs.Calls.{unfit, publish, restart, askRoom, run, runFrame, runRefusal, runUnits, ranAnswer, machineOf}
-use Rattle.model.specs.Course.{Call, publishing, running, asking, restarting, Lent, Standing, oneUnit, courseUnits, courseCall, course}
+use Rattle.model.specs.Course.{Call, publishing, running, asking, restarting, Lent, Configuration, oneUnit, courseUnits, courseCall, course}
 use Rattle.laws.specs.Units.{units-zero, units-stop, units-step, units-shift}
 use Rattle.model.specs.Perform.{perform, performs}
 
--- a standing from the end of some units
-abbrev pub standing : ℕ → Done → Standing
-standing w d = record { state = record { core = d .machine .core; write = w }; frame = d .machine .frame; sum = d .used }
+-- a configuration from the end of some units
+abbrev pub configuration : ℕ → Done → Configuration
+configuration w d = record { state = record { core = d .machine .core; write = w }; frame = d .machine .frame; sum = d .used }
 
-pub course-units : (ring : List ℕ) (n : ℕ) (y : Standing)
-    → courseUnits ring n y ≡ standing (y .state .write) (units ring (y .state .write) n (y .sum) (machineOf (y .state) (y .frame)))
+pub course-units : (ring : List ℕ) (n : ℕ) (y : Configuration)
+    → courseUnits ring n y ≡ configuration (y .state .write) (units ring (y .state .write) n (y .sum) (machineOf (y .state) (y .frame)))
 unfolding courseUnits
 course-units ring zero y = rw (units-zero ring (y .state .write) (y .sum) (machineOf (y .state) (y .frame)))
 course-units ring (suc n) y = go (possible ring (y .state .core) w) refl (course-units ring n (oneUnit ring y))
@@ -30,12 +30,12 @@ course-units ring (suc n) y = go (possible ring (y .state .core) w) refl (course
     m = machineOf (y .state) (y .frame)
 
     go : (b : Bool) → possible ring (y .state .core) w ≡ b
-        → courseUnits ring n (oneUnit ring y) ≡ standing w (units ring w n (y .sum + 1) (unit ring m))
-        → (if b then courseUnits ring n (oneUnit ring y) else y) ≡ standing w (units ring w (suc n) (y .sum) m)
-    go true e i = i ∙ ap (standing w) (sym (units-step ring w n (y .sum) m e))
-    go false e i = ap (standing w) (sym (units-stop ring w (suc n) (y .sum) m e))
+        → courseUnits ring n (oneUnit ring y) ≡ configuration w (units ring w n (y .sum + 1) (unit ring m))
+        → (if b then courseUnits ring n (oneUnit ring y) else y) ≡ configuration w (units ring w (suc n) (y .sum) m)
+    go true e i = i ∙ ap (configuration w) (sym (units-step ring w n (y .sum) m e))
+    go false e i = ap (configuration w) (sym (units-stop ring w (suc n) (y .sum) m e))
 
-module _ (ring : List ℕ) (y : Standing) where
+module _ (ring : List ℕ) (y : Configuration) where
   perform-publish : (p : ℕ) → perform (record { ring = ring; call = publishing p }) y ≡ courseCall ring (publishing p) y
   unfolding publish publishRefusal courseCall
   perform-publish p = go (unfit (y .state)) (p <? n) (waiting n r (y .state .write) ≤? distance n r p) refl refl refl
@@ -90,8 +90,8 @@ module _ (ring : List ℕ) (y : Standing) where
       go false true false eu ea eb = rw (eu, ea, eb, add-zero)
       go false true true eu ea eb =
           rw (eu, ea, eb)
-          (ap (standing w) (sym (units-shift ring w budget (y .sum) 0 m))
-          ∙ ap (λ (k : ℕ). standing w (units ring w budget k m)) (add-zero (y .sum))
+          (ap (configuration w) (sym (units-shift ring w budget (y .sum) 0 m))
+          ∙ ap (λ (k : ℕ). configuration w (units ring w budget k m)) (add-zero (y .sum))
           ∙ sym (course-units ring budget y))
 
   pub perform-course : (call : Call) → perform (record { ring = ring; call = call }) y ≡ courseCall ring call y
@@ -100,7 +100,7 @@ module _ (ring : List ℕ) (y : Standing) where
   perform-course asking = perform-asking
   perform-course restarting = perform-restart
 
-pub performs-course : (calls : List Lent) (y : Standing) → performs calls y ≡ course calls y
+pub performs-course : (calls : List Lent) (y : Configuration) → performs calls y ≡ course calls y
 performs-course [] y = refl
 performs-course (x ∷ xs) y =
     performs-course xs (perform x y) ∙ ap (course xs) (perform-course (x .ring) y (x .call))

@@ -24,9 +24,9 @@ use Rattle.model.specs.declared.Place.{Place}
 use Rattle.model.specs.declared.Place.the-variants.{Idle, Drawing}
 use Rattle.model.specs.declared.RunWord.{RunWord}
 use Rattle.model.specs.declared.RunWord.the-variants.{Waiting}
-use Rattle.model.specs.declared.Reply.the-variants.{Refused, Done as Accepted, Ran}
+use Rattle.model.specs.declared.Reply.the-variants.{Refused, Accepted, Ran}
 use Rattle.laws.specs.Fit.{fit-parts, parts-fit, place-parts, accepted-header}
-use Rattle.laws.specs.Sound.{sound-run, sound-units}
+use Rattle.laws.specs.WellFormed.{wellformed-run, wellformed-units}
 use Rattle.laws.specs.Units.{units-stop}
 use Rattle.demands.specs.Waits.{Whole, GoodHeader, NoCommand, no-word, not-whole, Waits, waits-word, test-whole, test-good, good-test, not-ready, none-ready, ready-whole, idle-ready}
 use Rattle.demands.specs.Table.{Table, CommandRow, bad-header, bad-return, judged, judge-above, run-answers, table}
@@ -236,7 +236,7 @@ module _ (ring : List ℕ) (s : State) (frame : List ℕ) (budget : ℕ) where
   run-fit : runRefusal ring s frame ≡ 0 → unfit (stateAfter s (runUnits ring s frame budget)) ≡ false
   unfolding runUnits
   run-fit e =
-      parts-fit _ (sound-units ring (s .write) budget 0 (machineOf s frame) (sound-run ring s frame e) .fit)
+      parts-fit _ (wellformed-units ring (s .write) budget 0 (machineOf s frame) (wellformed-run ring s frame e) .fit)
 
   run-kinds : Kinds s (run ring s frame budget)
   unfolding run ranAnswer room

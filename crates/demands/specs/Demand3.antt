@@ -12,14 +12,14 @@ use Rattle.model.specs.Choice.{_<?_, _≤?_, _=?_, if_then_else_, both}
 use Rattle.model.specs.Ring.{Agree, distance, waiting, empty}
 use Rattle.model.specs.Unit.{Machine, Done, done, possible, units}
 use Rattle.model.specs.Calls.{unfit, publish, run, restart, withWrite, machineOf}
-use Rattle.model.specs.Course.{Call, publishing, running, asking, restarting, Lent, Standing, courseUnits, courseCall, course}
+use Rattle.model.specs.Course.{Call, publishing, running, asking, restarting, Lent, Configuration, courseUnits, courseCall, course}
 use Rattle.model.specs.Perform.{perform, performs, lent, runs, total, start, Accepted, Fixed, Rests}
 use Rattle.model.specs.declared.Core.{Core}
 use Rattle.model.specs.declared.State.{State}
 use Rattle.laws.specs.Units.{units-zero, units-stop, units-add}
 use Rattle.laws.specs.Fit.{Fit, fit-parts, parts-fit}
-use Rattle.laws.specs.Sound.{Sound, sound-units}
-use Rattle.demands.specs.Courses.{standing, course-units, perform-course, performs-course}
+use Rattle.laws.specs.WellFormed.{WellFormed, wellformed-units}
+use Rattle.demands.specs.Courses.{configuration, course-units, perform-course, performs-course}
 use Rattle.demands.specs.Runs.{Published, published, course-publishes, course-runs, rests-impossible, impossible-rests, runs-total}
 use Rattle.demands.specs.Arrival.{OnRun, on-here, on-back, units-taken}
 use Rattle.demands.specs.Progress.{enoughRuns, progress}
@@ -28,7 +28,7 @@ use Rattle.demands.specs.Progress.{enoughRuns, progress}
 
 -- "Along that run means: counted from the starting read, modulo ring size, each accepted position is at least the write
 -- pointer then and at most the final one"; "with no restart accepted"
-abbrev pub Allowed : State → ℕ → Call → Standing → Type 0
+abbrev pub Allowed : State → ℕ → Call → Configuration → Type 0
 Allowed s final (publishing p) y =
     let from = distance (s .core .ringlength) (s .core .read) in
     Accepted (publish (y .state) p) → (from (y .state .write) ≤ from p) × (from p ≤ from final)
@@ -37,7 +37,7 @@ Allowed s final asking y = Unit {0}
 Allowed s final restarting y = Accepted (restart (y .state)) → ⊥
 
 -- of every call in the list: "Each gets what the last one left; nobody else writes in between"
-abbrev pub Along : List ℕ → State → ℕ → List Call → Standing → Type 0
+abbrev pub Along : List ℕ → State → ℕ → List Call → Configuration → Type 0
 Along ring s final [] y = Unit {0}
 Along ring s final (x ∷ xs) y =
     Allowed s final x y × Along ring s final xs (perform (record { ring = ring; call = x }) y)
@@ -45,14 +45,14 @@ Along ring s final (x ∷ xs) y =
 -- The stronger form: the ring is lent anew at each call, and at an accepted run only the words that wait then, from the read
 -- pointer up to the write pointer, need be those of the run of words. Words that were passed may be written over, and words
 -- that are not published yet may change, as hosts do.
-abbrev pub Words : List ℕ → State → List ℕ → Call → Standing → Type 0
+abbrev pub Words : List ℕ → State → List ℕ → Call → Configuration → Type 0
 Words all s ring (publishing p) y = Unit {0}
 Words all s ring (running budget) y =
     Accepted (run ring (y .state) (y .frame) budget) → Agree ring all (s .core .ringlength) (y .state .core .read) (y .state .write)
 Words all s ring asking y = Unit {0}
 Words all s ring restarting y = Unit {0}
 
-abbrev pub AlongFed : List ℕ → State → ℕ → List Lent → Standing → Type 0
+abbrev pub AlongFed : List ℕ → State → ℕ → List Lent → Configuration → Type 0
 AlongFed all s final [] y = Unit {0}
 AlongFed all s final (x ∷ xs) y =
     Allowed s final (x .call) y × Words all s (x .ring) (x .call) y × AlongFed all s final xs (perform x y)
@@ -60,11 +60,11 @@ AlongFed all s final (x ∷ xs) y =
 -- ---- the statement: what they come to
 
 -- publishing the final position at once, and then runs with these budgets
-abbrev pub atOnce : List ℕ → State → List ℕ → ℕ → List ℕ → Standing
+abbrev pub atOnce : List ℕ → State → List ℕ → ℕ → List ℕ → Configuration
 atOnce ring s frame final budgets = performs (lent ring (publishing final ∷ map running budgets)) (start s frame)
 
 -- What is claimed of the end y of a list of calls.
-pub record Arrived (ring : List ℕ) (s : State) (frame : List ℕ) (final : ℕ) (y : Standing) : Type 0 where
+pub record Arrived (ring : List ℕ) (s : State) (frame : List ℕ) (final : ℕ) (y : Configuration) : Type 0 where
   -- (b) "Write pointer aside, they equal those of publishing all at once and taking that many units", all of which can be
   -- taken. Ruled out: an engine that draws a command twice when its last word arrives late; one that reports units it did not
   -- do.
@@ -111,11 +111,11 @@ Demand3Fed =
 
 module _ (all : List ℕ) (s : State) (frame : List ℕ) (final : ℕ) where
   -- after a prefix of the calls: on the run, and as many units as with the final pointer in
-  record So (y : Standing) : Type 0 where
+  record So (y : Configuration) : Type 0 where
     on : OnRun (s .core .ringlength) (s .core .read) final (y .state .write) (y .state .core)
     plain : units all final (y .sum) 0 (machineOf s frame) ≡ done (machineOf (y .state) (y .frame)) (y .sum)
 
-  so-publish : (y : Standing) (p : ℕ) → So y → Allowed s final (publishing p) y → So (courseCall [] (publishing p) y)
+  so-publish : (y : Configuration) (p : ℕ) → So y → Allowed s final (publishing p) y → So (courseCall [] (publishing p) y)
   unfolding courseCall
   so-publish y p h allowed = go test refl
     where
@@ -143,7 +143,7 @@ module _ (all : List ℕ) (s : State) (frame : List ℕ) (final : ℕ) where
             plain = h .plain;
           }
 
-  so-run : (y : Standing) (ring : List ℕ) (budget : ℕ) → length all ≡ s .core .ringlength → So y
+  so-run : (y : Configuration) (ring : List ℕ) (budget : ℕ) → length all ≡ s .core .ringlength → So y
       → Words all s ring (running budget) y → So (courseCall ring (running budget) y)
   unfolding courseCall
   so-run y ring budget all-is h words = go test refl
@@ -177,7 +177,7 @@ module _ (all : List ℕ) (s : State) (frame : List ℕ) (final : ℕ) where
                 ∙ t .same;
           })
 
-  so-restart : (y : Standing) → So y → Allowed s final restarting y → So (courseCall [] restarting y)
+  so-restart : (y : Configuration) → So y → Allowed s final restarting y → So (courseCall [] restarting y)
   unfolding courseCall restart
   so-restart y h allowed = go (unfit (y .state)) (y .state .core .stop =? 0) refl refl
     where
@@ -186,7 +186,7 @@ module _ (all : List ℕ) (s : State) (frame : List ℕ) (final : ℕ) where
       go false true eu ea = rw (eu, ea) h
       go false false eu ea = absurd (allowed (rw (eu, ea)))
 
-  so-call : (ring : List ℕ) (call : Call) (y : Standing) → length all ≡ s .core .ringlength → So y → Allowed s final call y
+  so-call : (ring : List ℕ) (call : Call) (y : Configuration) → length all ≡ s .core .ringlength → So y → Allowed s final call y
       → Words all s ring call y → So (courseCall ring call y)
   unfolding courseCall
   so-call ring (publishing p) y all-is h a w = so-publish y p h a
@@ -194,7 +194,7 @@ module _ (all : List ℕ) (s : State) (frame : List ℕ) (final : ℕ) where
   so-call ring asking y all-is h a w = h
   so-call ring restarting y all-is h a w = so-restart y h a
 
-  so-calls : (calls : List Lent) (y : Standing) → length all ≡ s .core .ringlength → So y → AlongFed all s final calls y
+  so-calls : (calls : List Lent) (y : Configuration) → length all ≡ s .core .ringlength → So y → AlongFed all s final calls y
       → So (performs calls y)
   so-calls [] y all-is h a = h
   so-calls (x ∷ xs) y all-is h a =
@@ -224,9 +224,9 @@ module _ (all : List ℕ) (s : State) (frame : List ℕ) (final : ℕ) (fixed : 
   abbrev m : Machine
   m = machineOf s frame
 
-  -- the standing once the final position is published
-  sound-final : Sound all final m
-  sound-final =
+  -- the configuration once the final position is published
+  wellformed-final : WellFormed all final m
+  wellformed-final =
       let f = fit-parts s (fixed .state-fit) in
       record {
         fit = record {
@@ -244,13 +244,13 @@ module _ (all : List ℕ) (s : State) (frame : List ℕ) (final : ℕ) (fixed : 
       }
 
   -- publishing the final position alone
-  published-standing : perform (record { ring = all; call = publishing final }) (start s frame) ≡ start (withWrite s final) frame
-  published-standing = rw (p .state-is, p .units-none)
+  published-configuration : perform (record { ring = all; call = publishing final }) (start s frame) ≡ start (withWrite s final) frame
+  published-configuration = rw (p .state-is, p .units-none)
 
-  at-once : (budgets : List ℕ) → atOnce all s frame final budgets ≡ standing final (units all final (total budgets) 0 m)
+  at-once : (budgets : List ℕ) → atOnce all s frame final budgets ≡ configuration final (units all final (total budgets) 0 m)
   at-once budgets =
-      ap (runs all budgets) published-standing
-      ∙ runs-total all budgets (start (withWrite s final) frame) sound-final
+      ap (runs all budgets) published-configuration
+      ∙ runs-total all budgets (start (withWrite s final) frame) wellformed-final
 
   -- two numbers of units at whose end nothing more can be done have the same end
   same-rest : (a b : ℕ) (k : Machine) → units all final a 0 m ≡ done k a → possible all (k .core) final ≡ false
@@ -279,8 +279,8 @@ module _ (all : List ℕ) (s : State) (frame : List ℕ) (final : ℕ) (fixed : 
   ends =
       let y = start (withWrite s final) frame in
       let f : Fixed all (y .state) (y .frame) =
-      record { state-fit = parts-fit (y .state) (sound-final .fit); ring-is = fixed .ring-is; frame-is = fixed .frame-is } in
-      subst (λ (x : Standing). possible all (x .state .core) (x .state .write) ≡ false) (runs-total all enoughRuns y sound-final)
+      record { state-fit = parts-fit (y .state) (wellformed-final .fit); ring-is = fixed .ring-is; frame-is = fixed .frame-is } in
+      subst (λ (x : Configuration). possible all (x .state .core) (x .state .write) ≡ false) (runs-total all enoughRuns y wellformed-final)
       (progress all y f .by-runs .no-unit)
 
   -- more units than that are none
@@ -292,29 +292,29 @@ module _ (all : List ℕ) (s : State) (frame : List ℕ) (final : ℕ) (fixed : 
       ∙ units-stop all final n (d .used) (d .machine) ends
 
   -- enough runs after the calls
-  at-last : (y : Standing) → So all s frame final y → y .state .write ≡ final
+  at-last : (y : Configuration) → So all s frame final y → y .state .write ≡ final
       → runs all enoughRuns y ≡ atOnce all s frame final enoughRuns
   at-last y h w =
       let k = machineOf (y .state) (y .frame) in
-      let sound : Sound all final k = rw (h .plain) at (sound-units all final (y .sum) 0 m sound-final) in
-      runs-total all enoughRuns y (rw w sound)
-      ∙ ap (λ (x : ℕ). standing x (units all x (total enoughRuns) (y .sum) k)) w
-      ∙ ap (λ (d : Done). standing final (units all final (total enoughRuns) (d .used) (d .machine))) (sym (h .plain))
-      ∙ ap (standing final) (sym (units-add all final (y .sum) (total enoughRuns) 0 m) ∙ no-more (y .sum))
+      let wellformed : WellFormed all final k = rw (h .plain) at (wellformed-units all final (y .sum) 0 m wellformed-final) in
+      runs-total all enoughRuns y (rw w wellformed)
+      ∙ ap (λ (x : ℕ). configuration x (units all x (total enoughRuns) (y .sum) k)) w
+      ∙ ap (λ (d : Done). configuration final (units all final (total enoughRuns) (d .used) (d .machine))) (sym (h .plain))
+      ∙ ap (configuration final) (sym (units-add all final (y .sum) (total enoughRuns) 0 m) ∙ no-more (y .sum))
       ∙ sym (at-once enoughRuns)
 
-  arrived : (y : Standing) → So all s frame final y → Arrived all s frame final y
+  arrived : (y : Configuration) → So all s frame final y → Arrived all s frame final y
   arrived y h = record {
     same-units = rw (p .state-is) (h .plain);
     same-end = λ w r budgets q.
         let z : possible all (y .state .core) final ≡ false = rw w at (rests-impossible all y r) in
         let e = at-once budgets in
-        let i = rests-impossible all (standing final (units all final (total budgets) 0 m)) (rw e at q) in
-        e ∙ ap (standing final) (same-rest (y .sum) (total budgets) (machineOf (y .state) (y .frame)) (h .plain) z i)
-        ∙ ap (λ (x : ℕ). standing x (done (machineOf (y .state) (y .frame)) (y .sum))) (sym w);
+        let i = rests-impossible all (configuration final (units all final (total budgets) 0 m)) (rw e at q) in
+        e ∙ ap (configuration final) (same-rest (y .sum) (total budgets) (machineOf (y .state) (y .frame)) (h .plain) z i)
+        ∙ ap (λ (x : ℕ). configuration x (done (machineOf (y .state) (y .frame)) (y .sum))) (sym w);
     at-once-rests =
         subst (Rests all) (sym (at-once enoughRuns))
-        (impossible-rests all (standing final (units all final (total enoughRuns) 0 m)) ends);
+        (impossible-rests all (configuration final (units all final (total enoughRuns) 0 m)) ends);
     same-at-last = at-last y h;
   }
 
@@ -331,7 +331,7 @@ demand3-fed all s frame final calls fixed accepted along =
     )
 
 -- one ring lent at every call agrees with itself
-along-fed : (ring : List ℕ) (s : State) (final : ℕ) (calls : List Call) (y : Standing) → Along ring s final calls y
+along-fed : (ring : List ℕ) (s : State) (final : ℕ) (calls : List Call) (y : Configuration) → Along ring s final calls y
     → AlongFed ring s final (lent ring calls) y
 along-fed ring s final [] y a = tt
 along-fed ring s final (x ∷ xs) y a =

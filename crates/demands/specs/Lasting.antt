@@ -10,28 +10,28 @@ use Rattle.model.specs.Choice.{_<?_, _≤?_, _=?_, if_then_else_, both}
 use Rattle.model.specs.Ring.{waiting, distance}
 use Rattle.model.specs.Unit.{units}
 use Rattle.model.specs.Calls.{unfit, restart, restarted, withWrite, machineOf}
-use Rattle.model.specs.Course.{Call, publishing, running, asking, restarting, Lent, Standing, courseUnits, courseCall}
+use Rattle.model.specs.Course.{Call, publishing, running, asking, restarting, Lent, Configuration, courseUnits, courseCall}
 use Rattle.model.specs.Perform.{perform, performs, Accepted, Fixed}
 use Rattle.model.specs.declared.Core.{Core}
 use Rattle.model.specs.declared.State.{State}
 use Rattle.laws.specs.Fit.{fit-parts, parts-fit}
-use Rattle.laws.specs.Sound.{Sound, sound-units}
-use Rattle.demands.specs.Courses.{standing, course-units, perform-course}
+use Rattle.laws.specs.WellFormed.{WellFormed, wellformed-units}
+use Rattle.demands.specs.Courses.{configuration, course-units, perform-course}
 use Rattle.demands.specs.Runs.{published, course-publishes}
 use Rattle.demands.specs.Demand1.{demand1}
 
 -- ---- the statement
 
-abbrev pub Lasts : List ℕ → Standing → Type 0
+abbrev pub Lasts : List ℕ → Configuration → Type 0
 Lasts ring y = Fixed ring (y .state) (y .frame)
 
 abbrev pub Lasting : Type 0
-Lasting = (ring : List ℕ) (y : Standing) (calls : List Lent) → Lasts ring y → Lasts ring (performs calls y)
+Lasting = (ring : List ℕ) (y : Configuration) (calls : List Lent) → Lasts ring y → Lasts ring (performs calls y)
 
 -- ---- the proof
 
 module _ (ring : List ℕ) where
-  publish-lasts : (y : Standing) (p : ℕ) → Lasts ring y → Lasts ring (courseCall [] (publishing p) y)
+  publish-lasts : (y : Configuration) (p : ℕ) → Lasts ring y → Lasts ring (courseCall [] (publishing p) y)
   unfolding courseCall
   publish-lasts y p h = go test refl
     where
@@ -52,7 +52,7 @@ module _ (ring : List ℕ) where
           }
 
   -- the ring that a run is lent has the state's length, or the run is refused
-  run-lasts : (y : Standing) (now : List ℕ) (budget : ℕ) → Lasts ring y → Lasts ring (courseCall now (running budget) y)
+  run-lasts : (y : Configuration) (now : List ℕ) (budget : ℕ) → Lasts ring y → Lasts ring (courseCall now (running budget) y)
   unfolding courseCall
   run-lasts y now budget h = go test refl
     where
@@ -69,17 +69,17 @@ module _ (ring : List ℕ) where
           let m = machineOf (y .state) (y .frame) in
           let two = both (not (unfit (y .state)) && (length now =? c .ringlength)) _ e in
           let now-is = eqb-true _ _ (both (not (unfit (y .state))) _ (two .0) .1) in
-          let s : Sound now w m = record { fit = fit-parts (y .state) (h .state-fit); ring-is = now-is; frame-is = h .frame-is } in
+          let s : WellFormed now w m = record { fit = fit-parts (y .state) (h .state-fit); ring-is = now-is; frame-is = h .frame-is } in
           let d = units now w budget (y .sum) m in
-          let t = sound-units now w budget (y .sum) m s in
+          let t = wellformed-units now w budget (y .sum) m s in
           rw (course-units now budget y)
           (record {
-            state-fit = parts-fit (standing w d .state) (t .fit);
+            state-fit = parts-fit (configuration w d .state) (t .fit);
             ring-is = h .ring-is ∙ sym now-is ∙ t .ring-is;
             frame-is = t .frame-is;
           })
 
-  restart-lasts : (y : Standing) → Lasts ring y → Lasts ring (courseCall [] restarting y)
+  restart-lasts : (y : Configuration) → Lasts ring y → Lasts ring (courseCall [] restarting y)
   unfolding courseCall restart
   restart-lasts y h = go (unfit (y .state)) (y .state .core .stop =? 0) refl refl
     where
@@ -96,7 +96,7 @@ module _ (ring : List ℕ) where
             frame-is = h .frame-is;
           })
 
-  call-lasts : (now : List ℕ) (call : Call) (y : Standing) → Lasts ring y → Lasts ring (courseCall now call y)
+  call-lasts : (now : List ℕ) (call : Call) (y : Configuration) → Lasts ring y → Lasts ring (courseCall now call y)
   unfolding courseCall
   call-lasts now (publishing p) y h = publish-lasts y p h
   call-lasts now (running budget) y h = run-lasts y now budget h

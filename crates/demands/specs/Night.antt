@@ -16,20 +16,20 @@ use Rattle.model.specs.Ring.{Agree, distance, waiting, distance-lt, distance-le
 use Rattle.model.specs.Unit.{Machine, Done, unit, possible, units}
 use Rattle.model.specs.Steps.{possible-later}
 use Rattle.model.specs.Calls.{unfit, publish, run, restart, withWrite, numberOf, machineOf}
-use Rattle.model.specs.Course.{Call, publishing, running, asking, restarting, Lent, Standing, courseUnits, courseCall}
+use Rattle.model.specs.Course.{Call, publishing, running, asking, restarting, Lent, Configuration, courseUnits, courseCall}
 use Rattle.model.specs.Perform.{perform, performs, runs, total, start, Accepted, Fixed, Rests}
 use Rattle.model.specs.declared.Core.{Core}
 use Rattle.model.specs.declared.State.{State}
-use Rattle.laws.specs.Circle.{distance-sum, distance-next}
+use Rattle.laws.specs.Modular.{distance-sum, distance-next}
 use Rattle.laws.specs.Units.{units-zero, units-stop, units-step}
 use Rattle.laws.specs.Fit.{fit-parts}
-use Rattle.laws.specs.Sound.{sound-run}
+use Rattle.laws.specs.WellFormed.{wellformed-run}
 use Rattle.demands.specs.Table.{run-answers}
-use Rattle.demands.specs.Courses.{standing, course-units, perform-course}
+use Rattle.demands.specs.Courses.{configuration, course-units, perform-course}
 use Rattle.demands.specs.Runs.{published, course-publishes, course-runs, rests-impossible, impossible-rests, runs-total}
 use Rattle.demands.specs.Arrival.{OnRun, unit-on, unit-same}
 use Rattle.demands.specs.Lasting.{lasting}
-use Rattle.demands.specs.Progress.{enoughRuns, fixed-sound, progress}
+use Rattle.demands.specs.Progress.{enoughRuns, fixed-wellformed, progress}
 
 -- ---- the statement: the plain machine that reads the tape
 
@@ -73,36 +73,36 @@ abbrev pub writtenFirst : State → ℕ
 writtenFirst s = s .core .read + waiting (s .core .ringlength) (s .core .read) (s .write)
 
 -- An accepted publishing takes it as far on as the write pointer goes, and no other call moves it.
-abbrev pub writtenNext : ℕ → Call → Standing → ℕ
+abbrev pub writtenNext : ℕ → Call → Configuration → ℕ
 writtenNext written (publishing p) y =
     if numberOf (publish (y .state) p .reply) =? 0 then written + distance (y .state .core .ringlength) (y .state .write) p else written
 writtenNext written (running budget) y = written
 writtenNext written asking y = written
 writtenNext written restarting y = written
 
-abbrev pub writtenLast : ℕ → List Lent → Standing → ℕ
+abbrev pub writtenLast : ℕ → List Lent → Configuration → ℕ
 writtenLast written [] y = written
 writtenLast written (x ∷ xs) y = writtenLast (writtenNext written (x .call) y) xs (perform x y)
 
 -- The absolute read position: the words that wait are the last ones written.
-abbrev pub readAt : ℕ → Standing → ℕ
+abbrev pub readAt : ℕ → Configuration → ℕ
 readAt written y = written - waiting (y .state .core .ringlength) (y .state .core .read) (y .state .write)
 
 -- a ring agrees with the tape from the absolute read to the absolute write position; of its other words nothing is asked
-abbrev pub Holds : (ℕ → ℕ) → ℕ → List ℕ → Standing → Type 0
+abbrev pub Holds : (ℕ → ℕ) → ℕ → List ℕ → Configuration → Type 0
 Holds tape written ring y =
     (k : ℕ) → readAt written y ≤ k → k < written → getD ring (k % y .state .core .ringlength) 0 ≡ tape k
 
 -- what is asked of the host: an accepted run is lent such a ring, and no restart is accepted. Of publishings nothing is asked:
 -- those that the engine accepts are right.
-abbrev pub Hosted : (ℕ → ℕ) → ℕ → List ℕ → Call → Standing → Type 0
+abbrev pub Hosted : (ℕ → ℕ) → ℕ → List ℕ → Call → Configuration → Type 0
 Hosted tape written ring (publishing p) y = Unit {0}
 Hosted tape written ring (running budget) y = Accepted (run ring (y .state) (y .frame) budget) → Holds tape written ring y
 Hosted tape written ring asking y = Unit {0}
 Hosted tape written ring restarting y = Accepted (restart (y .state)) → ⊥
 
 -- at every call of the list, each getting what the last one left
-abbrev pub AllHosted : (ℕ → ℕ) → ℕ → List Lent → Standing → Type 0
+abbrev pub AllHosted : (ℕ → ℕ) → ℕ → List Lent → Configuration → Type 0
 AllHosted tape written [] y = Unit {0}
 AllHosted tape written (x ∷ xs) y =
     Hosted tape written (x .ring) (x .call) y × AllHosted tape (writtenNext written (x .call) y) xs (perform x y)
@@ -115,7 +115,7 @@ abbrev pub writtenBy : State → List ℕ → List Lent → ℕ
 writtenBy s frame calls = writtenLast (writtenFirst s) calls (start s frame)
 
 -- "the engine waits or has stopped", as a run would answer that is lent a ring that agrees with the tape
-pub record Resting (tape : ℕ → ℕ) (written : ℕ) (ring : List ℕ) (y : Standing) : Type 0 where
+pub record Resting (tape : ℕ → ℕ) (written : ℕ) (ring : List ℕ) (y : Configuration) : Type 0 where
   pub ring-is : length ring ≡ y .state .core .ringlength
   pub holds : Holds tape written ring y
   pub rests : Rests ring y
@@ -127,7 +127,7 @@ abbrev pub firstReading : State → List ℕ → Reading
 firstReading s frame = record { machine = machineOf s frame; at = s .core .read }
 
 -- What is claimed of the end y of a list of calls, with the absolute write position.
-pub record OnTape (tape : ℕ → ℕ) (s : State) (frame : List ℕ) (written : ℕ) (y : Standing) : Type 0 where
+pub record OnTape (tape : ℕ → ℕ) (s : State) (frame : List ℕ) (written : ℕ) (y : Configuration) : Type 0 where
   -- All but the write pointer, and frame memory, are those of the plain machine after as many units as were reported, and it
   -- stands at the absolute read position. Ruled out: an engine that takes equal pointers after a lap as full, and draws the
   -- lap's old words; one that after W draws the words that stood at ring word 0 a lap before.
@@ -181,7 +181,7 @@ NightAtLast =
 
 -- What is asked of a host can be met, over every tape and by every list of calls that has no restart: by lending at each call
 -- the tape's words from the absolute read position on.
-abbrev pub lending : (ℕ → ℕ) → ℕ → List Call → Standing → List Lent
+abbrev pub lending : (ℕ → ℕ) → ℕ → List Call → Configuration → List Lent
 lending tape written [] y = []
 lending tape written (call ∷ calls) y =
     let x : Lent = record { ring = window tape (y .state .core .ringlength) (readAt written y); call = call } in
@@ -237,7 +237,7 @@ unfolding window distance
 window-three = refl
 
 -- so the window is a ring to lend
-window-lent : (tape : ℕ → ℕ) (y : Standing) (written : ℕ) → y .state .core .read < y .state .core .ringlength
+window-lent : (tape : ℕ → ℕ) (y : Configuration) (written : ℕ) → y .state .core .read < y .state .core .ringlength
     → Holds tape written (window tape (y .state .core .ringlength) (readAt written y)) y
 unfolding waiting
 window-lent tape y written h k l u =
@@ -245,14 +245,14 @@ window-lent tape y written h k l u =
     let d = distance-lt n (y .state .core .read) (y .state .write) h in
     window-holds tape n (readAt written y) k l (omega arith)
 
-all-lent : (tape : ℕ → ℕ) (calls : List Call) (written : ℕ) (y : Standing) → NoRestart calls
+all-lent : (tape : ℕ → ℕ) (calls : List Call) (written : ℕ) (y : Configuration) → NoRestart calls
     → AllHosted tape written (lending tape written calls y) y
 all-lent tape [] written y none = tt
 all-lent tape (publishing p ∷ calls) written y none = (tt, all-lent tape calls _ _ none)
 all-lent tape (running budget ∷ calls) written y none =
     let ring = window tape (y .state .core .ringlength) (readAt written y) in (
       λ a. window-lent tape y written
-          (sound-run ring (y .state) (y .frame) (sym (run-answers ring (y .state) (y .frame) budget) ∙ a) .fit .read-in),
+          (wellformed-run ring (y .state) (y .frame) (sym (run-answers ring (y .state) (y .frame) budget) ∙ a) .fit .read-in),
       all-lent tape calls _ _ none,
     )
 all-lent tape (asking ∷ calls) written y none = (tt, all-lent tape calls _ _ none)
@@ -407,7 +407,7 @@ tape-add tape (suc a) b x = rw suc-add (tape-add tape a b (tapeUnit tape x))
 
 module _ (tape : ℕ → ℕ) (n : ℕ) (first : Reading) where
   -- after a prefix of the calls
-  record So (y : Standing) (written : ℕ) : Type 0 where
+  record Followed (y : Configuration) (written : ℕ) : Type 0 where
     at : ℕ
     here : Here n (y .state .write) written at (y .state .core)
     same : tapeUnits tape (y .sum) first ≡ reading (machineOf (y .state) (y .frame)) at
@@ -416,10 +416,10 @@ module _ (tape : ℕ → ℕ) (n : ℕ) (first : Reading) where
   later-further : (written more : ℕ) (x : Reading) → Further tape written x → Further tape (written + more) x
   later-further written more x q = (q .0, q .1, omega (arith, q .2))
 
-  so-publish : (y : Standing) (written p : ℕ) → So y written
-      → So (courseCall [] (publishing p) y) (writtenNext written (publishing p) y)
+  followed-publish : (y : Configuration) (written p : ℕ) → Followed y written
+      → Followed (courseCall [] (publishing p) y) (writtenNext written (publishing p) y)
   unfolding courseCall waiting
-  so-publish y written p h = go test refl
+  followed-publish y written p h = go test refl
     where
       c : Core
       c = y .state .core
@@ -436,7 +436,7 @@ module _ (tape : ℕ → ℕ) (n : ℕ) (first : Reading) where
           rw (q .state-fit, lt-ltb p (c .ringlength) (q .position-in)) (le-leb _ _ (q .rule))
 
       moved : Accepted (publish (y .state) p)
-          → So (record { state = withWrite (y .state) p; frame = y .frame; sum = y .sum }) (written + distance (c .ringlength) w p)
+          → Followed (record { state = withWrite (y .state) p; frame = y .frame; sum = y .sum }) (written + distance (c .ringlength) w p)
       moved a =
           let q = published (y .state) p a in
           let p-in = rw (h .here .size-is) at (q .position-in) in
@@ -463,12 +463,12 @@ module _ (tape : ℕ → ℕ) (n : ℕ) (first : Reading) where
       not-counted n = rw (ne-eqb (numberOf (publish (y .state) p .reply)) 0 n)
 
       go : (b : Bool) → test ≡ b
-          → So (if b then record { state = withWrite (y .state) p; frame = y .frame; sum = y .sum } else y) (writtenNext written (publishing p) y)
-      go true e = let a = course-publishes (y .state) p e in subst (So _) (sym (counted a)) (moved a)
-      go false e = subst (So y) (sym (not-counted (λ a. not-both test (accepted a) e))) h
+          → Followed (if b then record { state = withWrite (y .state) p; frame = y .frame; sum = y .sum } else y) (writtenNext written (publishing p) y)
+      go true e = let a = course-publishes (y .state) p e in subst (Followed _) (sym (counted a)) (moved a)
+      go false e = subst (Followed y) (sym (not-counted (λ a. not-both test (accepted a) e))) h
 
   -- the words that wait, counted from `at`
-  holds-at : (y : Standing) (written : ℕ) (h : So y written) (ring : List ℕ) → Holds tape written ring y
+  holds-at : (y : Configuration) (written : ℕ) (h : Followed y written) (ring : List ℕ) → Holds tape written ring y
       → (k : ℕ) → h .at ≤ k → k < written → getD ring (k % n) 0 ≡ tape k
   holds-at y written h ring holds k l u =
       let r = h .here .reach in
@@ -478,7 +478,7 @@ module _ (tape : ℕ → ℕ) (n : ℕ) (first : Reading) where
       u)
 
   -- some units more
-  module _ (y : Standing) (written : ℕ) (h : So y written) (d : Done)
+  module _ (y : Configuration) (written : ℕ) (h : Followed y written) (d : Done)
       (t : Taken tape n (y .state .write) written (y .sum) (reading (machineOf (y .state) (y .frame)) (h .at)) d) where
     taken-each : (k : ℕ) (b : Bool) → ltb k (y .sum) ≡ b → k < y .sum + t .count → Further tape written (tapeUnits tape k first)
     taken-each k true e l = h .each k (ltb-true _ _ e)
@@ -490,8 +490,8 @@ module _ (tape : ℕ → ℕ) (n : ℕ) (first : Reading) where
         ∙ ap (tapeUnits tape (k - y .sum)) (h .same) in
         subst (Further tape written) (sym q) (t .each (k - y .sum) (omega arith))
 
-    abbrev so-taken : So (standing (y .state .write) d) written
-    so-taken = record {
+    abbrev followed-taken : Followed (configuration (y .state .write) d) written
+    followed-taken = record {
       at = t .at;
       here = t .here;
       same =
@@ -500,10 +500,10 @@ module _ (tape : ℕ → ℕ) (n : ℕ) (first : Reading) where
       each = λ k l. taken-each k (ltb k (y .sum)) refl (omega (arith, t .used-is));
     }
 
-  so-run : (y : Standing) (written : ℕ) (ring : List ℕ) (budget : ℕ) → So y written → Hosted tape written ring (running budget) y
-      → So (courseCall ring (running budget) y) written
+  followed-run : (y : Configuration) (written : ℕ) (ring : List ℕ) (budget : ℕ) → Followed y written → Hosted tape written ring (running budget) y
+      → Followed (courseCall ring (running budget) y) written
   unfolding courseCall
-  so-run y written ring budget h hosted = go test refl
+  followed-run y written ring budget h hosted = go test refl
     where
       c : Core
       c = y .state .core
@@ -517,40 +517,40 @@ module _ (tape : ℕ → ℕ) (n : ℕ) (first : Reading) where
       test : Bool
       test = not (unfit (y .state)) && (length ring =? c .ringlength) && (length (y .frame) =? c .framelength)
 
-      go : (b : Bool) → test ≡ b → So (if b then courseUnits ring budget y else y) written
+      go : (b : Bool) → test ≡ b → Followed (if b then courseUnits ring budget y else y) written
       go false e = h
       go true e =
           let two = both (not (unfit (y .state)) && (length ring =? c .ringlength)) _ e in
           let ring-is = eqb-true _ _ (both (not (unfit (y .state))) _ (two .0) .1) ∙ h .here .size-is in
           let t = units-taken tape n w written ring ring-is budget (y .sum) m (h .at) (h .here) (holds-at y written h ring (hosted (course-runs ring y budget e))) in
-          rw (course-units ring budget y) (so-taken y written h (units ring w budget (y .sum) m) t)
+          rw (course-units ring budget y) (followed-taken y written h (units ring w budget (y .sum) m) t)
 
-  so-restart : (y : Standing) (written : ℕ) → So y written → (Accepted (restart (y .state)) → ⊥)
-      → So (courseCall [] restarting y) written
+  followed-restart : (y : Configuration) (written : ℕ) → Followed y written → (Accepted (restart (y .state)) → ⊥)
+      → Followed (courseCall [] restarting y) written
   unfolding courseCall restart
-  so-restart y written h none = go (unfit (y .state)) (y .state .core .stop =? 0) refl refl
+  followed-restart y written h none = go (unfit (y .state)) (y .state .core .stop =? 0) refl refl
     where
       go : (u a : Bool) → unfit (y .state) ≡ u → y .state .core .stop =? 0 ≡ a
-          → So (courseCall [] restarting y) written
+          → Followed (courseCall [] restarting y) written
       go true a eu ea = rw eu h
       go false true eu ea = rw (eu, ea) h
       go false false eu ea = absurd (none (rw (eu, ea)))
 
-  so-call : (ring : List ℕ) (call : Call) (y : Standing) (written : ℕ) → So y written → Hosted tape written ring call y
-      → So (courseCall ring call y) (writtenNext written call y)
+  followed-call : (ring : List ℕ) (call : Call) (y : Configuration) (written : ℕ) → Followed y written → Hosted tape written ring call y
+      → Followed (courseCall ring call y) (writtenNext written call y)
   unfolding courseCall
-  so-call ring (publishing p) y written h a = so-publish y written p h
-  so-call ring (running budget) y written h a = so-run y written ring budget h a
-  so-call ring asking y written h a = h
-  so-call ring restarting y written h a = so-restart y written h a
+  followed-call ring (publishing p) y written h a = followed-publish y written p h
+  followed-call ring (running budget) y written h a = followed-run y written ring budget h a
+  followed-call ring asking y written h a = h
+  followed-call ring restarting y written h a = followed-restart y written h a
 
-  so-calls : (calls : List Lent) (y : Standing) (written : ℕ) → So y written → AllHosted tape written calls y
-      → So (performs calls y) (writtenLast written calls y)
-  so-calls [] y written h a = h
-  so-calls (x ∷ xs) y written h a =
-      so-calls xs (perform x y) (writtenNext written (x .call) y)
-      (subst (λ (z : Standing). So z (writtenNext written (x .call) y)) (sym (perform-course (x .ring) y (x .call)))
-      (so-call (x .ring) (x .call) y written h (a .0)))
+  followed-calls : (calls : List Lent) (y : Configuration) (written : ℕ) → Followed y written → AllHosted tape written calls y
+      → Followed (performs calls y) (writtenLast written calls y)
+  followed-calls [] y written h a = h
+  followed-calls (x ∷ xs) y written h a =
+      followed-calls xs (perform x y) (writtenNext written (x .call) y)
+      (subst (λ (z : Configuration). Followed z (writtenNext written (x .call) y)) (sym (perform-course (x .ring) y (x .call)))
+      (followed-call (x .ring) (x .call) y written h (a .0)))
       (a .1)
 
 -- ---- the theorems
@@ -562,8 +562,8 @@ module _ (tape : ℕ → ℕ) (s : State) (frame : List ℕ) (fit : unfit s ≡ 
   abbrev first : Reading
   first = firstReading s frame
 
-  so-start : So tape n first (start s frame) (writtenFirst s)
-  so-start =
+  followed-start : Followed tape n first (start s frame) (writtenFirst s)
+  followed-start =
       let f = fit-parts s fit in
       record {
         at = s .core .read;
@@ -578,11 +578,11 @@ module _ (tape : ℕ → ℕ) (s : State) (frame : List ℕ) (fit : unfit s ≡ 
         each = λ k h. absurd (omega arith);
       }
 
-  so-night : (calls : List Lent) → Night tape s frame calls
-      → So tape n first (performs calls (start s frame)) (writtenBy s frame calls)
-  so-night calls hosted = so-calls tape n first calls (start s frame) (writtenFirst s) so-start hosted
+  followed-night : (calls : List Lent) → Night tape s frame calls
+      → Followed tape n first (performs calls (start s frame)) (writtenBy s frame calls)
+  followed-night calls hosted = followed-calls tape n first calls (start s frame) (writtenFirst s) followed-start hosted
 
-  module _ (y : Standing) (written : ℕ) (h : So tape n first y written) where
+  module _ (y : Configuration) (written : ℕ) (h : Followed tape n first y written) where
     -- where the words that wait begin
     begins : h .at ≡ readAt written y
     begins = rw (h .here .size-is) (omega (arith, h .here .reach))
@@ -618,7 +618,7 @@ unfolding WholeNight
 whole-night tape s frame calls fit hosted =
     let y = performs calls (start s frame) in
     let written = writtenBy s frame calls in
-    let h = so-night tape s frame fit calls hosted in
+    let h = followed-night tape s frame fit calls hosted in
     record {
       same-units = h .same ∙ ap (reading (machineOf (y .state) (y .frame))) (begins tape s frame fit y written h);
       each-possible = h .each;
@@ -626,8 +626,8 @@ whole-night tape s frame calls fit hosted =
       write-is = stands tape s frame fit y written h;
     }
 
--- a standing from its machine, write pointer and sum
-abbrev stood : Machine → ℕ → ℕ → Standing
+-- a configuration from its machine, write pointer and sum
+abbrev stood : Machine → ℕ → ℕ → Configuration
 stood m w k = record { state = record { core = m .core; write = w }; frame = m .frame; sum = k }
 
 module _ (tape : ℕ → ℕ) (s : State) (frame : List ℕ) (fit : unfit s ≡ false) where
@@ -635,8 +635,8 @@ module _ (tape : ℕ → ℕ) (s : State) (frame : List ℕ) (fit : unfit s ≡ 
   x = firstReading s frame
 
   -- two ends at rest with as many words published
-  same-rest : (y z : Standing) (u v : ℕ) (ring ring′ : List ℕ) → u ≡ v
-      → So tape (s .core .ringlength) x y u → So tape (s .core .ringlength) x z v
+  same-rest : (y z : Configuration) (u v : ℕ) (ring ring′ : List ℕ) → u ≡ v
+      → Followed tape (s .core .ringlength) x y u → Followed tape (s .core .ringlength) x z v
       → Resting tape u ring y → Resting tape v ring′ z → y ≡ z
   same-rest y z u v ring ring′ as-many g h rest rest′ = go (ltb (y .sum) (z .sum)) (ltb (z .sum) (y .sum)) refl refl
     where
@@ -660,7 +660,7 @@ module _ (tape : ℕ → ℕ) (s : State) (frame : List ℕ) (fit : unfit s ≡ 
           ∙ ap (stood (machineOf (z .state) (z .frame)) (z .state .write)) same
 
   -- enough runs more
-  module _ (y : Standing) (written : ℕ) (ring : List ℕ) (h : So tape (s .core .ringlength) x y written)
+  module _ (y : Configuration) (written : ℕ) (ring : List ℕ) (h : Followed tape (s .core .ringlength) x y written)
       (ring-is : length ring ≡ s .core .ringlength) (lasts : Fixed ring (y .state) (y .frame)) (holds : Holds tape written ring y)
       (rests : Rests ring (runs ring enoughRuns y)) where
     abbrev d : Done
@@ -671,19 +671,19 @@ module _ (tape : ℕ → ℕ) (s : State) (frame : List ℕ) (fit : unfit s ≡ 
         units-taken tape (s .core .ringlength) (y .state .write) written ring ring-is (total enoughRuns) (y .sum)
         (machineOf (y .state) (y .frame)) (h .at) (h .here) (holds-at tape (s .core .ringlength) x y written h ring holds)
 
-    more : runs ring enoughRuns y ≡ standing (y .state .write) d
-    more = runs-total ring enoughRuns y (fixed-sound ring y lasts)
+    more : runs ring enoughRuns y ≡ configuration (y .state .write) d
+    more = runs-total ring enoughRuns y (fixed-wellformed ring y lasts)
 
-    so-more : So tape (s .core .ringlength) x (runs ring enoughRuns y) written
-    so-more =
-        subst (λ (z : Standing). So tape (s .core .ringlength) x z written) (sym more)
-        (so-taken tape (s .core .ringlength) x y written h d taken)
+    followed-more : Followed tape (s .core .ringlength) x (runs ring enoughRuns y) written
+    followed-more =
+        subst (λ (z : Configuration). Followed tape (s .core .ringlength) x z written) (sym more)
+        (followed-taken tape (s .core .ringlength) x y written h d taken)
 
     rest-more : Resting tape written ring (runs ring enoughRuns y)
     rest-more =
         let n = s .core .ringlength in
-        let z = standing (y .state .write) d in
-        let g = so-taken tape n x y written h d taken in
+        let z = configuration (y .state .write) d in
+        let g = followed-taken tape n x y written h d taken in
         let b = begins tape s frame fit z written g in
         let at : Resting tape written ring z = record {
           ring-is = ring-is ∙ sym (g .here .size-is);
@@ -698,23 +698,23 @@ pub same-night : SameNight
 unfolding SameNight
 same-night tape s frame one other ring ring′ fit hosted hosted′ as-many rest rest′ =
     same-rest tape s frame fit _ _ _ _ ring ring′ as-many
-    (so-night tape s frame fit one hosted) (so-night tape s frame fit other hosted′) rest rest′
+    (followed-night tape s frame fit one hosted) (followed-night tape s frame fit other hosted′) rest rest′
 
 pub night-at-last : NightAtLast
 unfolding NightAtLast
 night-at-last tape s frame one other ring ring′ fixed fixed′ hosted hosted′ as-many holds holds′ =
     let fit = fixed .state-fit in
-    let g = so-night tape s frame fit one hosted in
-    let h = so-night tape s frame fit other hosted′ in
+    let g = followed-night tape s frame fit one hosted in
+    let h = followed-night tape s frame fit other hosted′ in
     let p = lasting ring (start s frame) one fixed in
     let q = lasting ring′ (start s frame) other fixed′ in
     let r = rested ring (performs one (start s frame)) p in
     let t = rested ring′ (performs other (start s frame)) q in
     same-rest tape s frame fit _ _ _ _ ring ring′ as-many
-    (so-more tape s frame fit _ _ ring g (fixed .ring-is) p holds r)
-    (so-more tape s frame fit _ _ ring′ h (fixed′ .ring-is) q holds′ t)
+    (followed-more tape s frame fit _ _ ring g (fixed .ring-is) p holds r)
+    (followed-more tape s frame fit _ _ ring′ h (fixed′ .ring-is) q holds′ t)
     (rest-more tape s frame fit _ _ ring g (fixed .ring-is) p holds r)
     (rest-more tape s frame fit _ _ ring′ h (fixed′ .ring-is) q holds′ t)
   where
-    rested : (ring : List ℕ) (y : Standing) → Fixed ring (y .state) (y .frame) → Rests ring (runs ring enoughRuns y)
+    rested : (ring : List ℕ) (y : Configuration) → Fixed ring (y .state) (y .frame) → Rests ring (runs ring enoughRuns y)
     rested ring y f = impossible-rests ring (runs ring enoughRuns y) (progress ring y f .by-runs .no-unit)

@@ -19,7 +19,7 @@ use Rattle.model.specs.Judging.{judge}
 use Rattle.model.specs.Unit.{Machine, headerAt, loadedAt, commandRefusal, stopped, loadedCore, drawnCore, pixelCount, unit, possible, units}
 use Rattle.model.specs.Steps.{unit-loads, unit-refuses, unit-draws}
 use Rattle.model.specs.Calls.{badPlace, machineOf}
-use Rattle.model.specs.Course.{Standing}
+use Rattle.model.specs.Course.{Configuration}
 use Rattle.model.specs.Perform.{runs, total, Fixed}
 use Rattle.model.specs.declared.Core.{Core}
 use Rattle.model.specs.declared.State.{State}
@@ -27,13 +27,13 @@ use Rattle.model.specs.declared.Kind.{Kind}
 use Rattle.model.specs.declared.Kind.the-variants.{Blt, Vector}
 use Rattle.model.specs.declared.Place.{Place}
 use Rattle.model.specs.declared.Place.the-variants.{Idle, Drawing}
-use Rattle.laws.specs.Circle.{distance-sum, distance-next}
+use Rattle.laws.specs.Modular.{distance-sum, distance-next}
 use Rattle.laws.specs.Units.{units-zero, units-stop, units-step}
 use Rattle.laws.specs.Numbers.{area-most}
 use Rattle.laws.specs.Ranges.{fit-blt, fit-vector}
 use Rattle.laws.specs.Fit.{Fit, fit-parts, place-parts, accepted-header, accepted-judge, possible-running, fit-unit}
-use Rattle.laws.specs.Sound.{Sound, sound-units}
-use Rattle.demands.specs.Courses.{standing}
+use Rattle.laws.specs.WellFormed.{WellFormed, wellformed-units}
+use Rattle.demands.specs.Courses.{configuration}
 use Rattle.demands.specs.Runs.{runs-total}
 use Rattle.demands.specs.Arrival.{advance}
 use Rattle.demands.specs.Waits.{GoodHeader, NoCommand, no-word, not-whole, Waits, test-good, impossible-waits, ready-whole, idle-ready}
@@ -89,8 +89,8 @@ pub record Ended (ring : List ℕ) (s : State) : Type 0 where
   pub no-unit : possible ring (s .core) (s .write) ≡ false
   pub at-rest : AtRest ring s
 
--- from a standing, by runs with whatever budgets
-pub record Ends (ring : List ℕ) (y : Standing) : Type 0 where
+-- from a configuration, by runs with whatever budgets
+pub record Ends (ring : List ℕ) (y : Configuration) : Type 0 where
   -- the units that can be left, seen from the state, are enough. Ruled out: an engine that reports units and does none; one
   -- that begins a refused command anew with each run.
   pub by-state : (budgets : List ℕ) → unitsLeft (y .state .write) (y .state .core) ≤ total budgets
@@ -107,7 +107,7 @@ pub record Ends (ring : List ℕ) (y : Standing) : Type 0 where
 
 -- From every accepted state with ring and frame memory of its lengths, such as every list of calls leaves (`Lasting`)
 abbrev pub Progress : Type 0
-Progress = (ring : List ℕ) (y : Standing) → Fixed ring (y .state) (y .frame) → Ends ring y
+Progress = (ring : List ℕ) (y : Configuration) → Fixed ring (y .state) (y .frame) → Ends ring y
 
 -- ---- what a load takes off
 
@@ -304,32 +304,32 @@ at-rest ring s fit e = go (s .core .stop =? 0) refl
         let h = neither (s .core .stop <? 21) (28 <? s .core .stop) (rw p at (fit .stop-fit)) in
         has-stopped (ltb-false _ _ (h .0)) (ltb-false _ _ (h .1))
 
-module _ (ring : List ℕ) (y : Standing) (fixed : Fixed ring (y .state) (y .frame)) where
+module _ (ring : List ℕ) (y : Configuration) (fixed : Fixed ring (y .state) (y .frame)) where
   abbrev m : Machine
   m = machineOf (y .state) (y .frame)
 
   abbrev w : ℕ
   w = y .state .write
 
-  pub fixed-sound : Sound ring w m
-  fixed-sound = record { fit = fit-parts (y .state) (fixed .state-fit); ring-is = fixed .ring-is; frame-is = fixed .frame-is }
+  pub fixed-wellformed : WellFormed ring w m
+  fixed-wellformed = record { fit = fit-parts (y .state) (fixed .state-fit); ring-is = fixed .ring-is; frame-is = fixed .frame-is }
 
   ended : (budgets : List ℕ) → unitsLeft w (y .state .core) ≤ total budgets → Ended ring (runs ring budgets y .state)
   ended budgets l =
       let d = units ring w (total budgets) (y .sum) m in
-      let e = units-end ring w (total budgets) (y .sum) m (fixed-sound .fit) l in
-      let f = sound-units ring w (total budgets) (y .sum) m fixed-sound .fit in
-      subst (λ (x : Standing). Ended ring (x .state)) (sym (runs-total ring budgets y fixed-sound))
-      (record { no-unit = e; at-rest = at-rest ring (standing w d .state) f e })
+      let e = units-end ring w (total budgets) (y .sum) m (fixed-wellformed .fit) l in
+      let f = wellformed-units ring w (total budgets) (y .sum) m fixed-wellformed .fit in
+      subst (λ (x : Configuration). Ended ring (x .state)) (sym (runs-total ring budgets y fixed-wellformed))
+      (record { no-unit = e; at-rest = at-rest ring (configuration w d .state) f e })
 
 pub progress : Progress
 progress ring y fixed =
-    let fit = fixed-sound ring y fixed .fit in
+    let fit = fixed-wellformed ring y fixed .fit in
     record {
       by-state = ended ring y fixed;
       never-more = λ budgets.
-          subst (λ (x : Standing). x .sum ≤ y .sum + unitsLeft (y .state .write) (y .state .core))
-          (sym (runs-total ring budgets y (fixed-sound ring y fixed)))
+          subst (λ (x : Configuration). x .sum ≤ y .sum + unitsLeft (y .state .write) (y .state .core))
+          (sym (runs-total ring budgets y (fixed-wellformed ring y fixed)))
           (units-few ring (y .state .write) (total budgets) (y .sum) (machineOf (y .state) (y .frame)) fit);
       by-words = λ budgets l. ended ring y fixed budgets (omega (arith, units-most (y .state .write) (y .state .core) fit));
       by-runs = ended ring y fixed enoughRuns (units-enough (y .state .write) (y .state .core) fit);

@@ -11,14 +11,14 @@ use Rattle.model.specs.Choice.{_<?_, _≤?_, _=?_, both}
 use Rattle.model.specs.Ring.{distance, waiting, publishRefusal}
 use Rattle.model.specs.Unit.{possible, units}
 use Rattle.model.specs.Calls.{unfit, publish, run, runRefusal, ranAnswer, runWord, numberOf, unitsOf, withWrite, machineOf}
-use Rattle.model.specs.Course.{running, Standing, courseUnits, courseCall}
+use Rattle.model.specs.Course.{running, Configuration, courseUnits, courseCall}
 use Rattle.model.specs.Perform.{perform, runs, total, Accepted, Rests}
 use Rattle.model.specs.declared.State.{State}
 use Rattle.model.specs.declared.RunWord.the-variants.{Spent}
 use Rattle.laws.specs.Units.{units-zero, units-add}
 use Rattle.laws.specs.Fit.{parts-fit, possible-running}
-use Rattle.laws.specs.Sound.{Sound, sound-units}
-use Rattle.demands.specs.Courses.{standing, course-units, perform-course}
+use Rattle.laws.specs.WellFormed.{WellFormed, wellformed-units}
+use Rattle.demands.specs.Courses.{configuration, course-units, perform-course}
 
 -- ---- publishing
 
@@ -64,7 +64,7 @@ module _ (s : State) (p : ℕ) where
 -- ---- runs
 
 -- the plain course's test is that the run is accepted
-pub course-runs : (ring : List ℕ) (y : Standing) (budget : ℕ)
+pub course-runs : (ring : List ℕ) (y : Configuration) (budget : ℕ)
     → not (unfit (y .state)) && (length ring =? y .state .core .ringlength) && (length (y .frame) =? y .state .core .framelength) ≡ true
     → Accepted (run ring (y .state) (y .frame) budget)
 unfolding run runRefusal ranAnswer
@@ -74,7 +74,7 @@ course-runs ring y budget e =
     rw (not-true (unfit (y .state)) (one .0), one .1, two .1)
 
 -- the engine rests exactly where no unit can be done
-pub rests-impossible : (ring : List ℕ) (y : Standing) → Rests ring y → possible ring (y .state .core) (y .state .write) ≡ false
+pub rests-impossible : (ring : List ℕ) (y : Configuration) → Rests ring y → possible ring (y .state .core) (y .state .write) ≡ false
 unfolding runWord
 rests-impossible ring y h = go (y .state .core .stop =? 0) (possible ring (y .state .core) (y .state .write)) refl refl h
   where
@@ -92,7 +92,7 @@ rests-impossible ring y h = go (y .state .core .stop =? 0) (possible ring (y .st
         (λ q. let z : _≡_ {A = ℕ} 0 1 = cc in absurd (omega arith))
         h
 
-pub impossible-rests : (ring : List ℕ) (y : Standing) → possible ring (y .state .core) (y .state .write) ≡ false → Rests ring y
+pub impossible-rests : (ring : List ℕ) (y : Configuration) → possible ring (y .state .core) (y .state .write) ≡ false → Rests ring y
 unfolding runWord
 impossible-rests ring y e = go (y .state .core .stop =? 0) refl
   where
@@ -100,32 +100,32 @@ impossible-rests ring y e = go (y .state .core .stop =? 0) refl
     go false p = inr (rw p)
     go true p = inl (rw (p, e))
 
--- a run of a sound standing is its units
-sound-course : (ring : List ℕ) (y : Standing) (budget : ℕ) → Sound ring (y .state .write) (machineOf (y .state) (y .frame))
+-- a run of a well-formed configuration is its units
+wellformed-course : (ring : List ℕ) (y : Configuration) (budget : ℕ) → WellFormed ring (y .state .write) (machineOf (y .state) (y .frame))
     → courseCall ring (running budget) y ≡ courseUnits ring budget y
 unfolding courseCall
-sound-course ring y budget h =
+wellformed-course ring y budget h =
     rw (
       parts-fit (y .state) (h .fit),
       eq-eqb (length ring) (y .state .core .ringlength) (h .ring-is),
       eq-eqb (length (y .frame)) (y .state .core .framelength) (h .frame-is),
     )
 
-run-units : (ring : List ℕ) (y : Standing) (budget : ℕ) → Sound ring (y .state .write) (machineOf (y .state) (y .frame))
+run-units : (ring : List ℕ) (y : Configuration) (budget : ℕ) → WellFormed ring (y .state .write) (machineOf (y .state) (y .frame))
     → perform (record { ring = ring; call = running budget }) y
-    ≡ standing (y .state .write) (units ring (y .state .write) budget (y .sum) (machineOf (y .state) (y .frame)))
+    ≡ configuration (y .state .write) (units ring (y .state .write) budget (y .sum) (machineOf (y .state) (y .frame)))
 run-units ring y budget h =
-    perform-course ring y (running budget) ∙ sound-course ring y budget h ∙ course-units ring budget y
+    perform-course ring y (running budget) ∙ wellformed-course ring y budget h ∙ course-units ring budget y
 
 -- several runs are as many units as their budgets allow together
-pub runs-total : (ring : List ℕ) (budgets : List ℕ) (y : Standing) → Sound ring (y .state .write) (machineOf (y .state) (y .frame))
+pub runs-total : (ring : List ℕ) (budgets : List ℕ) (y : Configuration) → WellFormed ring (y .state .write) (machineOf (y .state) (y .frame))
     → runs ring budgets y
-    ≡ standing (y .state .write) (units ring (y .state .write) (total budgets) (y .sum) (machineOf (y .state) (y .frame)))
+    ≡ configuration (y .state .write) (units ring (y .state .write) (total budgets) (y .sum) (machineOf (y .state) (y .frame)))
 runs-total ring [] y h = rw (units-zero ring (y .state .write) (y .sum) (machineOf (y .state) (y .frame)))
 runs-total ring (b ∷ bs) y h =
     let w = y .state .write in
     let m = machineOf (y .state) (y .frame) in
     let d = units ring w b (y .sum) m in
     ap (runs ring bs) (run-units ring y b h)
-    ∙ runs-total ring bs (standing w d) (sound-units ring w b (y .sum) m h)
-    ∙ ap (standing w) (sym (units-add ring w b (total bs) (y .sum) m))
+    ∙ runs-total ring bs (configuration w d) (wellformed-units ring w b (y .sum) m h)
+    ∙ ap (configuration w) (sym (units-add ring w b (total bs) (y .sum) m))

@@ -13,7 +13,7 @@ use Rattle.model.specs.Limits.{ringLeast, ringMost, frameMost}
 use Rattle.model.specs.Bounds.{byteOutside, outside}
 use Rattle.model.specs.Ring.{distance, waiting, publishRefusal}
 use Rattle.model.specs.BltPixel.{bltOf, plus, minus}
-use Rattle.model.specs.VectorPixel.{vectorOf, spot}
+use Rattle.model.specs.VectorPixel.{vectorOf, position}
 use Rattle.model.specs.Command.{kindOf, draws, badHeader, badReturn, headerRefusal}
 use Rattle.model.specs.Judging.{judge, row23, row24, row25, row26, row27, row28}
 use Rattle.model.specs.Unit.{headerAt, loadedAt, commandRefusal, pixelCount}
@@ -48,7 +48,7 @@ DestinationOutside BltKind registers framelength =
     PixelOutside framelength (b .depth) (b .width * b .height) (b .offset) (plus b (b .stride)) (minus b (b .stride))
 DestinationOutside VectorKind registers framelength =
     let v = vectorOf registers in
-    PixelOutside framelength (v .depth) (v .length) (v .offset) (λ k. spot v k .plus) (λ k. spot v k .minus)
+    PixelOutside framelength (v .depth) (v .length) (v .offset) (λ k. position v k .plus) (λ k. position v k .minus)
 
 abbrev pub SourceOutside : Kind → List ℕ → ℕ → Type 0
 SourceOutside BltKind registers framelength =

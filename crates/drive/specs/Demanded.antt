@@ -3,14 +3,14 @@ use Prim.Native.Nat.{ℕ}
 use mathlib.Core.Path.{_≡_, sym, subst, _∙_}
 use mathlib.Core.List.{List}
 use Rattle.model.specs.Calls.{publish}
-use Rattle.model.specs.Course.{Call, Standing, course}
+use Rattle.model.specs.Course.{Call, Configuration, course}
 use Rattle.model.specs.Perform.{lent, start, Accepted, Fixed}
 use Rattle.model.specs.declared.State.{State}
 use Rattle.demands.specs.Courses.{performs-course}
 use Rattle.demands.specs.Demand3.{Along, Arrived, Demand3, demand3}
 
 -- y is what these calls come to, all lent one ring
-pub record Demanded (ring : List ℕ) (s : State) (frame : List ℕ) (calls : List Call) (y : Standing) : Type 0 where
+pub record Demanded (ring : List ℕ) (s : State) (frame : List ℕ) (calls : List Call) (y : Configuration) : Type 0 where
   -- (a) "the state, frame memory and sum of reported units are what document 01's plain course gives", whatever the calls
   pub is-course : y ≡ course (lent ring calls) (start s frame)
   -- (b) and (c), as `Arrived` has them, under the demand's hypotheses: for every final position that publishing accepts and
@@ -19,7 +19,7 @@ pub record Demanded (ring : List ℕ) (s : State) (frame : List ℕ) (calls : Li
       → Arrived ring s frame final y
 
 -- (b) and (c) follow from (a)
-pub demanded : (ring : List ℕ) (s : State) (frame : List ℕ) (calls : List Call) (y : Standing)
+pub demanded : (ring : List ℕ) (s : State) (frame : List ℕ) (calls : List Call) (y : Configuration)
     → y ≡ course (lent ring calls) (start s frame) → Demanded ring s frame calls y
 unfolding Demand3
 demanded ring s frame calls y e = record {

@@ -45,7 +45,7 @@ fn units(reply: Reply) -> u32
 {
     match reply {
         Reply::Refused(_) => 0,
-        Reply::Done { room: _ } => 0,
+        Reply::Accepted { room: _ } => 0,
         Reply::Ran {
             word: _,
             units,

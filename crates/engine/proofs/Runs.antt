@@ -8,7 +8,7 @@ use Rattle.model.specs.Calls.{refused, roomAfter, runWord, runRefusal, runUnits
 use Rattle.model.specs.Unit.{done}
 use Rattle.model.specs.declared.State.{State}
 use Rattle.model.specs.declared.Reply.the-variants.{Ran}
-use Rattle.laws.specs.Sound.{Sound, sound-run}
+use Rattle.laws.specs.WellFormed.{WellFormed, wellformed-run}
 use Rattle.engine.specs.Turns.{runNumber, Finished}
 
 module _ (ring : List ℕ) (s : State) (frame : List ℕ) (budget : ℕ) where
@@ -22,8 +22,8 @@ module _ (ring : List ℕ) (s : State) (frame : List ℕ) (budget : ℕ) where
   run-refused h = rw (number-is, ne-eqb _ _ h) (refl, refl)
 
   module _ (accepted : runNumber s (length ring) (length frame) ≡ 0) where
-    pub run-sound : Sound ring (s .write) (machineOf s frame)
-    run-sound = sound-run ring s frame (number-is ∙ accepted)
+    pub run-wellformed : WellFormed ring (s .write) (machineOf s frame)
+    run-wellformed = wellformed-run ring s frame (number-is ∙ accepted)
 
     pub run-finished : (t : State) (after : List ℕ) (used : ℕ) → Finished ring s t frame after budget used
         → (record { state = t; reply = Ran (runWord ring t) used (roomAfter t) } ≡ run ring s frame budget)

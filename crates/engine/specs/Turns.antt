@@ -11,7 +11,7 @@ use Rattle.model.specs.Calls.{badRing, badFrame, unfit, machineOf}
 use Rattle.model.specs.declared.Core.{Core}
 use Rattle.model.specs.declared.State.{State}
 use Rattle.model.specs.declared.Place.{Place}
-use Rattle.laws.specs.Sound.{Sound}
+use Rattle.laws.specs.WellFormed.{WellFormed}
 
 -- 1 or 2 for a length out of range, or 0
 unfoldable pub lengthRefusal : ℕ → ℕ → ℕ
@@ -53,20 +53,20 @@ pub record Advanced (ring : List ℕ) (s t : State) (before after : List ℕ) (l
   pub some : 0 < used
   pub most : used ≤ left
   pub write-kept : t .write ≡ s .write
-  pub sound : Sound ring (t .write) (machineOf t after)
+  pub wellformed : WellFormed ring (t .write) (machineOf t after)
   pub same : (u : ℕ)
       → units ring (s .write) left u (machineOf s before) ≡ units ring (t .write) (left - used) (u + used) (machineOf t after)
 
 -- some of a budget's units are done, and the rest go on from there
 pub record Going (ring : List ℕ) (s t : State) (before now : List ℕ) (budget used : ℕ) : Type 0 where
   pub most : used ≤ budget
-  pub sound : Sound ring (t .write) (machineOf t now)
+  pub wellformed : WellFormed ring (t .write) (machineOf t now)
   pub write-kept : t .write ≡ s .write
   pub length-kept : length now ≡ length before
   pub same : units ring (s .write) budget 0 (machineOf s before) ≡ units ring (t .write) (budget - used) used (machineOf t now)
 
 -- all the units of a budget were done, or as many as could be
 pub record Finished (ring : List ℕ) (s t : State) (before after : List ℕ) (budget used : ℕ) : Type 0 where
-  pub sound : Sound ring (t .write) (machineOf t after)
+  pub wellformed : WellFormed ring (t .write) (machineOf t after)
   pub write-kept : t .write ≡ s .write
   pub same : units ring (s .write) budget 0 (machineOf s before) ≡ record { machine = machineOf t after; used = used }

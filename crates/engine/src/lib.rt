@@ -7,7 +7,7 @@ ghost use lib.ListN.{length};
 ghost use Rattle.model.specs.Unit.{ready, stopped, pixelCount, drawnCore, possible};
 ghost use Rattle.model.specs.Calls.{badStop, badPlace, unfit, freshState, accepted, refused, setup, publish, restart, askRoom, runWord, run, runFrame, machineOf};
 ghost use Rattle.laws.specs.Order.{pixels};
-ghost use Rattle.laws.specs.Sound.{Sound};
+ghost use Rattle.laws.specs.WellFormed.{WellFormed};
 ghost use Rattle.model.specs.Judging.{judge};
 ghost use Rattle.model.specs.declared.Place.the-variants.{Drawing};
 ghost use Rattle.engine.specs.Turns.{lengthRefusal, FitCore, loadUnit, movedCore, runNumber, Advanced, Finished};
@@ -120,7 +120,7 @@ fn accept(s: State) -> Answer
     let left = ring::room_left(c.ringlength, c.read, s.write);
     Answer {
         state: s,
-        reply: Reply::Done { room: left },
+        reply: Reply::Accepted { room: left },
     }
 }
 
@@ -347,7 +347,7 @@ struct Turn {
 
 // Does the next units: a load, or as many pixels of the command in progress as the budget allows.
 fn advance(s: State, words: &[u32], frame: &mut [u8], left: u32) -> Turn
-    requires { ⌜ (Sound (now words) (s .write) (machineOf s (now frame))) × (possible (now words) (s .core) (s .write) ≡ true) × (0 < left) ⌝ }
+    requires { ⌜ (WellFormed (now words) (s .write) (machineOf s (now frame))) × (possible (now words) (s .core) (s .write) ≡ true) × (0 < left) ⌝ }
     ensures { λ r. ⌜ Advanced (now (words .entry)) s (r .state) (now (frame .entry)) (now (frame .exit)) left (r .used) ⌝ }
 {
     let c = s.core;
@@ -377,7 +377,7 @@ fn advance(s: State, words: &[u32], frame: &mut [u8], left: u32) -> Turn
 
 // Does units until no further one can be done or the budget is used.
 fn do_units(s: State, words: &[u32], frame: &mut [u8], budget: u32) -> Turn
-    requires { ⌜ Sound (now words) (s .write) (machineOf s (now frame)) ⌝ }
+    requires { ⌜ WellFormed (now words) (s .write) (machineOf s (now frame)) ⌝ }
     ensures { λ r. ⌜ Finished (now (words .entry)) s (r .state) (now (frame .entry)) (now (frame .exit)) budget (r .used) ⌝ }
 {
     let mut t = s;

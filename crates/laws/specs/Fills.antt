@@ -21,14 +21,14 @@ use Rattle.laws.specs.Rows.{toByte, walk, Walk, Row, row-walk, place-in,
 -- ---- rows of one value
 
 -- frame memory with a value at each of n pixels, from byte a up
-unfoldable pub stamped : (depth value n : ℕ) → ℕ → List ℕ → List ℕ
-stamped depth value zero a frame = frame
-stamped depth value (suc n) a frame = stamped depth value n (a + depth) (storePixel depth frame a value)
+unfoldable pub filled : (depth value n : ℕ) → ℕ → List ℕ → List ℕ
+filled depth value zero a frame = frame
+filled depth value (suc n) a frame = filled depth value n (a + depth) (storePixel depth frame a value)
 
 -- the same from byte a down
-unfoldable stamped-down : (depth value n : ℕ) → ℕ → List ℕ → List ℕ
-stamped-down depth value zero a frame = frame
-stamped-down depth value (suc n) a frame = stamped-down depth value n (a - depth) (storePixel depth frame a value)
+unfoldable filled-down : (depth value n : ℕ) → ℕ → List ℕ → List ℕ
+filled-down depth value zero a frame = frame
+filled-down depth value (suc n) a frame = filled-down depth value n (a - depth) (storePixel depth frame a value)
 
 module _ (depth value : ℕ) where
   -- a row writer that is lent a part of frame memory leaves the rest as it is
@@ -51,32 +51,32 @@ module _ (depth value : ℕ) where
       rw (set-append-left xs ys i (v % 256) (omega arith))
       (store-before n (set xs i (v % 256)) ys (i + 1) (v / 256) (rw (length-set xs i (v % 256)) (omega arith)))
 
-  stamped-after : (n : ℕ) (xs ys : List ℕ) (i : ℕ)
-      → stamped depth value n (length xs + i) (xs ++ ys) ≡ xs ++ stamped depth value n i ys
-  unfolding stamped
-  stamped-after zero xs ys i = refl
-  stamped-after (suc n) xs ys i =
-      rw (store-after depth xs ys i value, add-assoc (length xs) i depth) (stamped-after n xs _ (i + depth))
+  filled-after : (n : ℕ) (xs ys : List ℕ) (i : ℕ)
+      → filled depth value n (length xs + i) (xs ++ ys) ≡ xs ++ filled depth value n i ys
+  unfolding filled
+  filled-after zero xs ys i = refl
+  filled-after (suc n) xs ys i =
+      rw (store-after depth xs ys i value, add-assoc (length xs) i depth) (filled-after n xs _ (i + depth))
 
-  stamped-before : (n : ℕ) (xs ys : List ℕ) (i : ℕ) → i + n * depth ≤ length xs
-      → stamped depth value n i (xs ++ ys) ≡ stamped depth value n i xs ++ ys
-  unfolding stamped
-  stamped-before zero xs ys i h = refl
-  stamped-before (suc n) xs ys i h =
+  filled-before : (n : ℕ) (xs ys : List ℕ) (i : ℕ) → i + n * depth ≤ length xs
+      → filled depth value n i (xs ++ ys) ≡ filled depth value n i xs ++ ys
+  unfolding filled
+  filled-before zero xs ys i h = refl
+  filled-before (suc n) xs ys i h =
       let s = suc-mul n depth in
       rw (store-before depth xs ys i value (omega arith))
-      (stamped-before n (storePixel depth xs i value) ys (i + depth) (rw (length-store depth xs i value) (omega arith)))
+      (filled-before n (storePixel depth xs i value) ys (i + depth) (rw (length-store depth xs i value) (omega arith)))
 
-  stamped-part : (n a m : ℕ) (frame : List ℕ) → a + m ≤ length frame → n * depth ≤ m
-      → take a frame ++ (stamped depth value n 0 (take m (drop a frame)) ++ drop m (drop a frame)) ≡ stamped depth value n a frame
-  stamped-part n a m frame h l =
+  filled-part : (n a m : ℕ) (frame : List ℕ) → a + m ≤ length frame → n * depth ≤ m
+      → take a frame ++ (filled depth value n 0 (take m (drop a frame)) ++ drop m (drop a frame)) ≡ filled depth value n a frame
+  filled-part n a m frame h l =
       let rest = drop a frame in
       let d = length-drop a frame in
       let t : length (take m rest) ≡ m = length-take-le m rest (omega arith) in
       let e : length (take a frame) + 0 ≡ a = omega (arith, length-take-le a frame (omega arith)) in
       ap (λ (ys : List ℕ). take a frame ++ ys)
-      (sym (stamped-before n (take m rest) (drop m rest) 0 (omega arith)) ∙ ap (stamped depth value n 0) (take-append-drop m rest))
-      ∙ sym (stamped-after n (take a frame) rest 0) ∙ rw (e, take-append-drop a frame)
+      (sym (filled-before n (take m rest) (drop m rest) 0 (omega arith)) ∙ ap (filled depth value n 0) (take-append-drop m rest))
+      ∙ sym (filled-after n (take a frame) rest 0) ∙ rw (e, take-append-drop a frame)
 
   -- stores that share no byte may change places, so the order does not matter
   set-store : (n : ℕ) (frame : List ℕ) (a v i x : ℕ) → a + n ≤ i → storePixel n (set frame i x) a v ≡ set (storePixel n frame a v) i x
@@ -93,37 +93,37 @@ module _ (depth value : ℕ) where
       store-store n m (set frame t (w % 256)) a v (t + 1) (w / 256) (omega arith)
       ∙ ap (λ (g : List ℕ). storePixel m g (t + 1) (w / 256)) (set-store n frame a v t (w % 256) h)
 
-  stamped-store : (n : ℕ) (frame : List ℕ) (a t : ℕ) → a + n * depth ≤ t
-      → stamped depth value n a (storePixel depth frame t value) ≡ storePixel depth (stamped depth value n a frame) t value
-  unfolding stamped
-  stamped-store zero frame a t h = refl
-  stamped-store (suc n) frame a t h =
+  filled-store : (n : ℕ) (frame : List ℕ) (a t : ℕ) → a + n * depth ≤ t
+      → filled depth value n a (storePixel depth frame t value) ≡ storePixel depth (filled depth value n a frame) t value
+  unfolding filled
+  filled-store zero frame a t h = refl
+  filled-store (suc n) frame a t h =
       let s = suc-mul n depth in
-      rw (store-store depth depth frame a value t value (omega arith)) (stamped-store n (storePixel depth frame a value) (a + depth) t (omega arith))
+      rw (store-store depth depth frame a value t value (omega arith)) (filled-store n (storePixel depth frame a value) (a + depth) t (omega arith))
 
-  stamped-end : (n : ℕ) (frame : List ℕ) (a : ℕ)
-      → stamped depth value (suc n) a frame ≡ storePixel depth (stamped depth value n a frame) (a + n * depth) value
-  unfolding stamped
-  stamped-end zero frame a = let e : a + 0 * depth ≡ a = omega arith in rw e
-  stamped-end (suc n) frame a =
+  filled-end : (n : ℕ) (frame : List ℕ) (a : ℕ)
+      → filled depth value (suc n) a frame ≡ storePixel depth (filled depth value n a frame) (a + n * depth) value
+  unfolding filled
+  filled-end zero frame a = let e : a + 0 * depth ≡ a = omega arith in rw e
+  filled-end (suc n) frame a =
       let e : a + suc n * depth ≡ a + depth + n * depth = omega (arith, suc-mul n depth) in
-      rw e (stamped-end n (storePixel depth frame a value) (a + depth))
+      rw e (filled-end n (storePixel depth frame a value) (a + depth))
 
-  down-up : (n : ℕ) (frame : List ℕ) (a : ℕ) → stamped-down depth value (suc n) (a + n * depth) frame ≡ stamped depth value (suc n) a frame
-  down-up zero frame a = let e : a + 0 * depth ≡ a = omega arith in rw e (unfold stamped stamped-down in refl)
+  down-up : (n : ℕ) (frame : List ℕ) (a : ℕ) → filled-down depth value (suc n) (a + n * depth) frame ≡ filled depth value (suc n) a frame
+  down-up zero frame a = let e : a + 0 * depth ≡ a = omega arith in rw e (unfold filled filled-down in refl)
   down-up (suc n) frame a =
       let t = a + suc n * depth in
       let e : t - depth ≡ a + n * depth = omega (arith, suc-mul n depth) in
-      let one : stamped-down depth value (suc (suc n)) t frame ≡ stamped-down depth value (suc n) (t - depth) (storePixel depth frame t value) =
-      unfold stamped-down in refl in
+      let one : filled-down depth value (suc (suc n)) t frame ≡ filled-down depth value (suc n) (t - depth) (storePixel depth frame t value) =
+      unfold filled-down in refl in
       one
-      ∙ rw e (down-up n (storePixel depth frame t value) a ∙ stamped-store (suc n) frame a t (omega arith) ∙ sym (stamped-end (suc n) frame a))
+      ∙ rw e (down-up n (storePixel depth frame t value) a ∙ filled-store (suc n) frame a t (omega arith) ∙ sym (filled-end (suc n) frame a))
 
 -- a row in the middle of its writer's loop: i of n pixels are stored, and the rest remain to store
 pub record Stamping (depth value n : ℕ) (first : List ℕ) (i : ℕ) (row : List ℕ) : Type 0 where
   pub stored : i ≤ n
   pub same : length row ≡ length first
-  pub rest : stamped depth value n 0 first ≡ stamped depth value (n - i) (i * depth) row
+  pub rest : filled depth value n 0 first ≡ filled depth value (n - i) (i * depth) row
 
 module _ {depth value n : ℕ} where
   pub stamping-all : (row : List ℕ) → Stamping depth value n row 0 row
@@ -134,7 +134,7 @@ module _ {depth value n : ℕ} where
 
   pub stamping-next : {first : List ℕ} {i at : ℕ} {row next : List ℕ} → Stamping depth value n first i row → i < n
       → at ≡ i * depth → next ≡ storePixel depth row at value → Stamping depth value n first (i + 1) next
-  unfolding stamped
+  unfolding filled
   stamping-next {first} {i} {at} {row} {next} m l a e =
       let d : n - i ≡ suc (n - (i + 1)) = omega arith in
       let s : (i + 1) * depth ≡ i * depth + depth = omega (arith, add-mul i 1 depth) in
@@ -145,8 +145,8 @@ module _ {depth value n : ℕ} where
       }
 
   pub stamping-none : {first : List ℕ} {i : ℕ} {row : List ℕ} → Stamping depth value n first i row → n ≤ i
-      → row ≡ stamped depth value n 0 first
-  unfolding stamped
+      → row ≡ filled depth value n 0 first
+  unfolding filled
   stamping-none {first} {i} m l = let z : n - i ≡ 0 = omega arith in sym (m .rest ∙ rw z)
 
 -- ---- rows of a solid fill
@@ -164,8 +164,8 @@ module _ (b : Blt) (solid : b .mono ≡ false) (fills : b .code ≡ 0xF0) where
 
   -- n pixels that lie one after the other, in either direction
   fill-right : (n k t : ℕ) (frame : List ℕ) → ((m : ℕ) → m < n → toByte b (k + m) ≡ t + m * b .depth)
-      → bltPixels b k n frame ≡ stamped (b .depth) (b .color0) n t frame
-  unfolding inOrder stamped
+      → bltPixels b k n frame ≡ filled (b .depth) (b .color0) n t frame
+  unfolding inOrder filled
   fill-right zero k t frame h = refl
   fill-right (suc n) k t frame h =
       let z : k + 0 ≡ k = omega arith in
@@ -179,8 +179,8 @@ module _ (b : Blt) (solid : b .mono ≡ false) (fills : b .code ≡ 0xF0) where
       rw (x, w) (h (suc m) (omega arith))))
 
   fill-left : (n k t : ℕ) (frame : List ℕ) → ((m : ℕ) → m < n → toByte b (k + m) ≡ t - m * b .depth)
-      → bltPixels b k n frame ≡ stamped-down (b .depth) (b .color0) n t frame
-  unfolding inOrder stamped-down
+      → bltPixels b k n frame ≡ filled-down (b .depth) (b .color0) n t frame
+  unfolding inOrder filled-down
   fill-left zero k t frame h = refl
   fill-left (suc n) k t frame h =
       let z : k + 0 ≡ k = omega arith in
@@ -199,7 +199,7 @@ lowest negative start by = if negative then start - by else start
 
 module _ {size : ℕ} {b : Blt} where
   fill-suc : (n k : ℕ) (frame : List ℕ) → Row size b k (suc n) → b .mono ≡ false → b .code ≡ 0xF0
-      → stamped (b .depth) (b .color0) (suc n) (lowest (b .left) (toByte b k) (n * b .depth)) frame
+      → filled (b .depth) (b .color0) (suc n) (lowest (b .left) (toByte b k) (n * b .depth)) frame
       ≡ bltPixels b k (suc n) frame
   fill-suc n k frame r solid fills = go (b .left) refl
     where
@@ -209,14 +209,14 @@ module _ {size : ℕ} {b : Blt} where
           ∙ ap (λ (y : Bool). walk y (toByte b k) (m * b .depth)) q
 
       go : (x : Bool) → b .left ≡ x
-          → stamped (b .depth) (b .color0) (suc n) (lowest x (toByte b k) (n * b .depth)) frame ≡ bltPixels b k (suc n) frame
+          → filled (b .depth) (b .color0) (suc n) (lowest x (toByte b k) (n * b .depth)) frame ≡ bltPixels b k (suc n) frame
       go false q = sym (fill-right b solid fills (suc n) k (toByte b k) frame (on false q))
       go true q =
           let h = place-back (to-inside (r .fit)) k n (r .start) (omega (arith, r .row)) q in
           let a = toByte b k - n * b .depth in
           let g : toByte b k ≡ a + n * b .depth = omega arith in
           sym (fill-left b solid fills (suc n) k (toByte b k) frame (on true q)
-          ∙ ap (λ (t : ℕ). stamped-down (b .depth) (b .color0) (suc n) t frame) g ∙ down-up (b .depth) (b .color0) n frame a)
+          ∙ ap (λ (t : ℕ). filled-down (b .depth) (b .color0) (suc n) t frame) g ∙ down-up (b .depth) (b .color0) n frame a)
 
   end-suc : (n k : ℕ) → Row size b k (suc n)
       → lowest (b .left) (toByte b k) (n * b .depth) + suc n * b .depth ≤ size
@@ -235,7 +235,7 @@ module _ {size : ℕ} {b : Blt} where
 
   -- a row, stored from its lowest byte up
   fill-row : (n k : ℕ) (frame : List ℕ) → 0 < n → Row size b k n → b .mono ≡ false → b .code ≡ 0xF0
-      → stamped (b .depth) (b .color0) n (lowest (b .left) (toByte b k) ((n - 1) * b .depth)) frame
+      → filled (b .depth) (b .color0) n (lowest (b .left) (toByte b k) ((n - 1) * b .depth)) frame
       ≡ bltPixels b k n frame
   fill-row zero k frame z r solid fills = absurd (omega arith)
   fill-row (suc n) k frame z r solid fills = let q : suc n - 1 ≡ n = omega arith in rw q (fill-suc n k frame r solid fills)
@@ -256,15 +256,15 @@ module _ {size : ℕ} {b : Blt} {k n : ℕ} (r : Row size b k n) (z : 0 < n) {st
   pub fill-part : b .mono ≡ false → b .code ≡ 0xF0 → {a : ℕ} → a ≡ lowest (b .left) start ((n - 1) * b .depth) → {depth : ℕ}
       → b .depth ≡ depth → (frame : List ℕ) {ys : List ℕ} → length frame ≡ size
       → let part = take (a + n * b .depth - a) (drop a frame) in
-      ys ≡ stamped depth (b .color0) (length part / depth) 0 part
+      ys ≡ filled depth (b .color0) (length part / depth) 0 part
       → take a frame ++ (ys ++ drop (a + n * b .depth - a) (drop a frame)) ≡ bltPixels b k n frame
-  fill-part solid fills {a} low {depth} same frame {ys} s filled =
+  fill-part solid fills {a} low {depth} same frame {ys} s written =
       let l = bytes-in low in
       let m : a + n * b .depth - a ≡ n * b .depth = omega arith in
       let d = length-drop a frame in
       let t : length (take (n * b .depth) (drop a frame)) ≡ n * b .depth = length-take-le (n * b .depth) (drop a frame) (omega arith) in
       let c : length (take (a + n * b .depth - a) (drop a frame)) / depth ≡ n =
       rw (← same, m, t) (mul-div-cancel n (depth-least (r .fit .to .deep))) in
-      let row : stamped (b .depth) (b .color0) n a frame ≡ bltPixels b k n frame = rw (low, starts) (fill-row n k frame z r solid fills) in
-      rw (filled, c, ← same, m)
-      (stamped-part (b .depth) (b .color0) n a (n * b .depth) frame (omega arith) (omega arith) ∙ row)
+      let row : filled (b .depth) (b .color0) n a frame ≡ bltPixels b k n frame = rw (low, starts) (fill-row n k frame z r solid fills) in
+      rw (written, c, ← same, m)
+      (filled-part (b .depth) (b .color0) n a (n * b .depth) frame (omega arith) (omega arith) ∙ row)

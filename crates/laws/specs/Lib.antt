@@ -1,11 +1,11 @@
-pub mod Circle
+pub mod Modular
 pub mod Whole
 pub mod Pixels
 pub mod Patterns
 pub mod Some
 pub mod Units
 pub mod Fit
-pub mod Sound
+pub mod WellFormed
 pub mod Order
 pub mod Ranges
 pub mod Spans

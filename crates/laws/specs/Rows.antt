@@ -12,7 +12,7 @@ use Rattle.model.specs.Formats.{Depth}
 use Rattle.model.specs.Bounds.{added, taken, firstByte}
 use Rattle.model.specs.Pixel.{readPixel, storePixel}
 use Rattle.model.specs.Raster.{raster}
-use Rattle.model.specs.Pattern.{patternBit, patternPlace}
+use Rattle.model.specs.Pattern.{patternBit, patternIndex}
 use Rattle.model.specs.BltPixel.{plus, minus, rectangleOutside, destinationByte, sourceByte, inkBit, patternValue, skipped, sourceValue, drawBlt}
 use Rattle.model.specs.declared.Blt.{Blt}
 use Rattle.laws.specs.Pixels.{length-store}
@@ -204,8 +204,8 @@ unfolding patternBit
 ink-lt data0 data1 row column = mod-lt _ (omega arith)
 
 -- the bit of pixel i of a row, by the pattern row of the row's first pixel
-pub ink-row : (b : Blt) (k i : ℕ) {row : ℕ} → k % b .width + i < b .width → row ≡ patternPlace (b .up) (b .row) (k / b .width)
-    → patternBit (b .data0) (b .data1) row (patternPlace (b .left) (b .column) (k % b .width + i)) ≡ inkBit b (k + i)
+pub ink-row : (b : Blt) (k i : ℕ) {row : ℕ} → k % b .width + i < b .width → row ≡ patternIndex (b .up) (b .row) (k / b .width)
+    → patternBit (b .data0) (b .data1) row (patternIndex (b .left) (b .column) (k % b .width + i)) ≡ inkBit b (k + i)
 unfolding inkBit
 ink-row b k i l e = rw (e, column-add (b .width) k i l, row-add (b .width) k i l)
 

@@ -7,19 +7,19 @@ use native.Mathlib.Numerals.{add-one}
 use lib.IntN.{pos}
 use lib.Signed.{ltZ}
 use Rattle.model.specs.Choice.{if_then_else_}
-use Rattle.model.specs.VectorPixel.{majorStep, minorStep, moved, axialStep, diagonalStep, step, spot}
+use Rattle.model.specs.VectorPixel.{majorStep, minorStep, moved, axialStep, diagonalStep, step, position}
 use Rattle.model.specs.declared.Vector.{Vector}
-use Rattle.model.specs.declared.Spot.{Spot}
+use Rattle.model.specs.declared.Position.{Position}
 use Rattle.laws.specs.Pixels.{depth-most}
 use Rattle.laws.specs.Ranges.{RangedVector}
 
 -- a place whose two sides are far below the largest number of 64 bits: what a step asks for so that its sums fit
-pub record Near (s : Spot) : Type 0 where
+pub record Near (s : Position) : Type 0 where
   pub plus : s .plus < 2 ^ 32
   pub minus : s .minus < 2 ^ 32
 
 -- a move leads at most its bytes further on either side
-pub moved-most : (positive : Bool) (n : ℕ) (s : Spot)
+pub moved-most : (positive : Bool) (n : ℕ) (s : Position)
     → (moved positive n s .plus ≤ s .plus + n) × (moved positive n s .minus ≤ s .minus + n)
 moved-most true n s = omega arith
 moved-most false n s = omega arith
@@ -42,28 +42,28 @@ choice-both P true p q = p
 choice-both P false p q = q
 
 -- a step leads at most a pixel and a stride further on either side
-pub step-most : (v : Vector) → RangedVector v → (s : Spot)
+pub step-most : (v : Vector) → RangedVector v → (s : Position)
     → (step v s .plus ≤ s .plus + 65_539) × (step v s .minus ≤ s .minus + 65_539)
 unfolding step axialStep diagonalStep
 step-most v r s =
-    let m = moved-most (v .majorup) (majorStep v) s in
-    let n = moved-most (v .minorup) (minorStep v) (moved (v .majorup) (majorStep v) s) in
+    let m = moved-most (v .majorpositive) (majorStep v) s in
+    let n = moved-most (v .minorpositive) (minorStep v) (moved (v .majorpositive) (majorStep v) s) in
     let b = steps-most v r in
-    choice-both (λ (x : Spot). (x .plus ≤ s .plus + 65_539) × (x .minus ≤ s .minus + 65_539)) (ltZ (s .error) (pos 0))
+    choice-both (λ (x : Position). (x .plus ≤ s .plus + 65_539) × (x .minus ≤ s .minus + 65_539)) (ltZ (s .error) (pos 0))
     (omega arith)
     (omega arith)
 
 -- one step more
-pub spot-next : (v : Vector) (k : ℕ) {s : Spot} → s ≡ spot v k → step v s ≡ spot v (k + 1)
-unfolding spot
-spot-next v k e = rw (add-one, e)
+pub position-next : (v : Vector) (k : ℕ) {s : Position} → s ≡ position v k → step v s ≡ position v (k + 1)
+unfolding position
+position-next v k e = rw (add-one, e)
 
 -- k steps lead at most k times as far
-pub spot-most : (v : Vector) → RangedVector v → (k : ℕ) → (spot v k .plus ≤ k * 65_539) × (spot v k .minus ≤ k * 65_539)
-unfolding spot
-spot-most v r zero = omega arith
-spot-most v r (suc k) = let h = spot-most v r k in omega (arith, step-most v r (spot v k))
+pub position-most : (v : Vector) → RangedVector v → (k : ℕ) → (position v k .plus ≤ k * 65_539) × (position v k .minus ≤ k * 65_539)
+unfolding position
+position-most v r zero = omega arith
+position-most v r (suc k) = let h = position-most v r k in omega (arith, step-most v r (position v k))
 
 -- so every pixel of a vector lies near the offset
-pub spot-near : (v : Vector) (k : ℕ) {s : Spot} → RangedVector v → k ≤ v .length → s ≡ spot v k → Near s
-spot-near v k r l e = rw e (omega (arith, r .long-most, spot-most v r k))
+pub position-near : (v : Vector) (k : ℕ) {s : Position} → RangedVector v → k ≤ v .length → s ≡ position v k → Near s
+position-near v k r l e = rw e (omega (arith, r .long-most, position-most v r k))

@@ -8,7 +8,7 @@ use Rattle.model.specs.Formats.{formatOf, depthOf}
 use Rattle.model.specs.Bounds.{added, taken, firstByte, outside}
 use Rattle.model.specs.Pixel.{readPixel, storePixel}
 use Rattle.model.specs.Raster.{raster}
-use Rattle.model.specs.Pattern.{patternBit, patternPlace}
+use Rattle.model.specs.Pattern.{patternBit, patternIndex}
 use Rattle.model.specs.declared.Blt.{Blt}
 
 -- the BLT that the registers describe
@@ -67,8 +67,8 @@ sourceByte b k = firstByte (b .srcoffset) (plus b (b .srcstride) k) (minus b (b 
 unfoldable pub inkBit : Blt → ℕ → ℕ
 inkBit b k =
     patternBit (b .data0) (b .data1)
-    (patternPlace (b .up) (b .row) (pixelRow b k))
-    (patternPlace (b .left) (b .column) (pixelColumn b k))
+    (patternIndex (b .up) (b .row) (pixelRow b k))
+    (patternIndex (b .left) (b .column) (pixelColumn b k))
 
 -- "Solid pattern is PAT_COLOR_0." Of a mono pattern "set gives PAT_COLOR_1, clear PAT_COLOR_0"
 unfoldable pub patternValue : Blt → ℕ → ℕ

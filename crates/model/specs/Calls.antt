@@ -17,7 +17,7 @@ use Rattle.model.specs.declared.Place.the-variants.{Idle, Drawing}
 use Rattle.model.specs.declared.RunWord.{RunWord}
 use Rattle.model.specs.declared.RunWord.the-variants.{Stopped, Waiting, Spent}
 use Rattle.model.specs.declared.Reply.{Reply}
-use Rattle.model.specs.declared.Reply.the-variants.{Refused, Done as Accepted, Ran}
+use Rattle.model.specs.declared.Reply.the-variants.{Refused, Accepted, Ran}
 use Rattle.model.specs.declared.Answer.{Answer}
 
 -- ---- what a reply says, as document 01 words it

@@ -10,9 +10,9 @@ use Rattle.model.specs.Bounds.{byteOutside, some, outside}
 use Rattle.model.specs.Pixel.{readPixel, storePixel}
 use Rattle.model.specs.Ring.{distance, waiting, room, publishRefusal, wordAt}
 use Rattle.model.specs.Raster.{raster, raster-source, raster-pattern, raster-destination, raster-pattern-xor, raster-source-xor}
-use Rattle.model.specs.Pattern.{patternByte, patternBit, patternPlace}
+use Rattle.model.specs.Pattern.{patternByte, patternBit, patternIndex}
 use Rattle.model.specs.BltPixel.{bltOf, destinationByte, sourceByte, inkBit, patternValue, skipped, sourceValue, drawBlt}
-use Rattle.model.specs.VectorPixel.{signed16, vectorOf, axialStep, diagonalStep, step, spot, vectorByte, drawVector}
+use Rattle.model.specs.VectorPixel.{signed16, vectorOf, axialStep, diagonalStep, step, position, vectorByte, drawVector}
 use Rattle.model.specs.Command.{kindOf, badHeader, badReturn, headerRefusal, whole, loadWords, loaded, readAfter}
 use Rattle.model.specs.Judging.{judge}
 use Rattle.model.specs.Completion.{retired}
@@ -23,7 +23,7 @@ use Rattle.model.specs.declared.Kind.the-variants.{Blt, Vector}
 use Rattle.model.specs.declared.Place.{Place}
 use Rattle.model.specs.declared.Place.the-variants.{Idle, Drawing}
 use Rattle.model.specs.declared.RunWord.the-variants.{Stopped, Waiting, Spent}
-use Rattle.model.specs.declared.Reply.the-variants.{Done as Accepted, Ran}
+use Rattle.model.specs.declared.Reply.the-variants.{Accepted, Ran}
 
 -- ---- how the cases are set up
 
@@ -71,7 +71,7 @@ firstSix dst err len mode =
 
 -- the bits that eight pixels to the right get of pattern row A5h, from X low bits x
 abbrev pub rowA5 : ℕ → List ℕ
-rowA5 x = map (λ i. patternBit 0xA5 0 0 (patternPlace false x i)) (0 ∷ 1 ∷ 2 ∷ 3 ∷ 4 ∷ 5 ∷ 6 ∷ 7 ∷ [])
+rowA5 x = map (λ i. patternBit 0xA5 0 0 (patternIndex false x i)) (0 ∷ 1 ∷ 2 ∷ 3 ∷ 4 ∷ 5 ∷ 6 ∷ 7 ∷ [])
 
 -- ---- the table
 
@@ -206,7 +206,7 @@ pub record Recorded : Type 0 where
 -- ---- all of it
 
 pub cases : Cases × Further × Recorded
-unfolding patternBit patternByte patternPlace distance waiting room publishRefusal wordAt readPixel storePixel raster bltOf formatOf destinationByte sourceByte inkBit patternValue skipped sourceValue drawBlt signed16 vectorOf axialStep diagonalStep step spot vectorByte drawVector kindOf badHeader badReturn headerRefusal whole loadWords loaded readAfter byteOutside some outside judge retired commandRefusal ready stopped loadedCore pixelCount drawPixel drawnCore unitAt unit possible units unfit runWord runRefusal runUnits ranAnswer run runFrame setup publish
+unfolding patternBit patternByte patternIndex distance waiting room publishRefusal wordAt readPixel storePixel raster bltOf formatOf destinationByte sourceByte inkBit patternValue skipped sourceValue drawBlt signed16 vectorOf axialStep diagonalStep step position vectorByte drawVector kindOf badHeader badReturn headerRefusal whole loadWords loaded readAfter byteOutside some outside judge retired commandRefusal ready stopped loadedCore pixelCount drawPixel drawnCore unitAt unit possible units unfit runWord runRefusal runUnits ranAnswer run runFrame setup publish
 cases = (
   record {
     code-5A = λ s. raster-pattern-xor 8 0xFF s 0xF0;

@@ -24,13 +24,13 @@ pub record Lent : Type 0 where
   pub call : Call
 
 -- what is handed on from call to call
-pub record Standing : Type 0 where
+pub record Configuration : Type 0 where
   pub state : State
   pub frame : List ℕ
   pub sum : ℕ
 
 -- "A run does units as above, each adding 1": one more unit
-abbrev pub oneUnit : List ℕ → Standing → Standing
+abbrev pub oneUnit : List ℕ → Configuration → Configuration
 oneUnit ring y =
     let next = unit ring (machineOf (y .state) (y .frame)) in
     record {
@@ -40,17 +40,17 @@ oneUnit ring y =
     }
 
 -- as many as the budget and the words waiting allow
-unfoldable pub courseUnits : List ℕ → ℕ → Standing → Standing
+unfoldable pub courseUnits : List ℕ → ℕ → Configuration → Configuration
 courseUnits ring zero y = y
 courseUnits ring (suc n) y =
     let further = courseUnits ring n (oneUnit ring y) in
     if possible ring (y .state .core) (y .state .write) then further else y
 
-abbrev pub withState : Standing → State → Standing
+abbrev pub withState : Configuration → State → Configuration
 withState y s = record { state = s; frame = y .frame; sum = y .sum }
 
 -- "An accepted publish sets write. .. Asking for room, or a call that the table refuses, changes nothing."
-unfoldable pub courseCall : List ℕ → Call → Standing → Standing
+unfoldable pub courseCall : List ℕ → Call → Configuration → Configuration
 courseCall ring (publishing p) y =
     let c = y .state .core in
     if not (unfit (y .state)) && p <? c .ringlength
@@ -66,6 +66,6 @@ courseCall ring asking y = y
 courseCall ring restarting y =
     if not (unfit (y .state)) && not (y .state .core .stop =? 0) then withState y (restarted (y .state)) else y
 
-abbrev pub course : List Lent → Standing → Standing
+abbrev pub course : List Lent → Configuration → Configuration
 course [] y = y
 course (x ∷ xs) y = course xs (courseCall (x .ring) (x .call) y)

@@ -17,8 +17,8 @@ patternBit data0 data1 row column = bit (patternByte data0 data1 row) (7 - colum
 
 -- "row and column are the offset register's Y and X low bits plus the signed steps from the first pixel, modulo 8": n steps
 -- further, or back where the direction is negative (8 n is added so that the difference is not below 0)
-unfoldable pub patternPlace : Bool → ℕ → ℕ → ℕ
-patternPlace negative low n = (if negative then low + 8 * n - n else low + n) % 8
+unfoldable pub patternIndex : Bool → ℕ → ℕ → ℕ
+patternIndex negative low n = (if negative then low + 8 * n - n else low + n) % 8
 
 -- ---- laws
 
@@ -38,7 +38,7 @@ example-bits = (refl, refl)
 
 -- back from 0: 0 7 6 5; further from 6: 6 7 0 1
 pub places :
-    (map (patternPlace true 0) (0 ∷ 1 ∷ 2 ∷ 3 ∷ []) ≡ 0 ∷ 7 ∷ 6 ∷ 5 ∷ [])
-    × (map (patternPlace false 6) (0 ∷ 1 ∷ 2 ∷ 3 ∷ []) ≡ 6 ∷ 7 ∷ 0 ∷ 1 ∷ [])
-unfolding patternPlace
+    (map (patternIndex true 0) (0 ∷ 1 ∷ 2 ∷ 3 ∷ []) ≡ 0 ∷ 7 ∷ 6 ∷ 5 ∷ [])
+    × (map (patternIndex false 6) (0 ∷ 1 ∷ 2 ∷ 3 ∷ []) ≡ 6 ∷ 7 ∷ 0 ∷ 1 ∷ [])
+unfolding patternIndex
 places = (refl, refl)

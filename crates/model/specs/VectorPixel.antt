@@ -11,7 +11,7 @@ use Rattle.model.specs.Bounds.{firstByte, outside}
 use Rattle.model.specs.Pixel.{readPixel, storePixel}
 use Rattle.model.specs.Raster.{raster}
 use Rattle.model.specs.declared.Vector.{Vector}
-use Rattle.model.specs.declared.Spot.{Spot}
+use Rattle.model.specs.declared.Position.{Position}
 
 -- "Axial, diagonal and initial error are signed 16-bit": a field in two's complement stands from 32,768 up for 65,536 less
 unfoldable pub signed16 : ℕ → ℤ
@@ -28,8 +28,8 @@ vectorOf registers = record {
   diagonal = signed16 (diagonalField registers);
   initial = signed16 (initialField registers);
   ymajor = yMajor registers;
-  majorup = majorPositive registers;
-  minorup = minorPositive registers;
+  majorpositive = majorPositive registers;
+  minorpositive = minorPositive registers;
   code = rasterCode registers;
   foreground = word registers SRC-COLOR-FG;
   color = word registers PAT-COLOR-0;
@@ -43,40 +43,40 @@ abbrev pub minorStep : Vector → ℕ
 minorStep v = if v .ymajor then v .depth else v .stride
 
 -- n bytes further, or back
-abbrev pub moved : Bool → ℕ → Spot → Spot
+abbrev pub moved : Bool → ℕ → Position → Position
 moved positive n s =
     if positive then record { plus = s .plus + n; minus = s .minus; error = s .error }
     else record { plus = s .plus; minus = s .minus + n; error = s .error }
 
-abbrev pub withError : Spot → ℤ → Spot
+abbrev pub withError : Position → ℤ → Position
 withError s error = record { plus = s .plus; minus = s .minus; error = error }
 
 -- "an axial step (major axis only) and add the axial term"
-unfoldable pub axialStep : Vector → Spot → Spot
-axialStep v s = withError (moved (v .majorup) (majorStep v) s) (s .error +ℤ v .axial)
+unfoldable pub axialStep : Vector → Position → Position
+axialStep v s = withError (moved (v .majorpositive) (majorStep v) s) (s .error +ℤ v .axial)
 
 -- "a diagonal step and add the diagonal term"
-unfoldable pub diagonalStep : Vector → Spot → Spot
+unfoldable pub diagonalStep : Vector → Position → Position
 diagonalStep v s =
-    withError (moved (v .minorup) (minorStep v) (moved (v .majorup) (majorStep v) s)) (s .error +ℤ v .diagonal)
+    withError (moved (v .minorpositive) (minorStep v) (moved (v .majorpositive) (majorStep v) s)) (s .error +ℤ v .diagonal)
 
 -- "if the error is below 0 take an axial step .., else a diagonal step"
-unfoldable pub step : Vector → Spot → Spot
+unfoldable pub step : Vector → Position → Position
 step v s = if ltZ (s .error) (pos 0) then axialStep v s else diagonalStep v s
 
 -- pixel number k, from 0: k steps from the offset and the initial error
-unfoldable pub spot : Vector → ℕ → Spot
-spot v zero = record { plus = 0; minus = 0; error = v .initial }
-spot v (suc k) = step v (spot v k)
+unfoldable pub position : Vector → ℕ → Position
+position v zero = record { plus = 0; minus = 0; error = v .initial }
+position v (suc k) = step v (position v k)
 
 -- where some byte of some of its pixels lies outside frame memory
 abbrev pub vectorOutside : ℕ → Vector → Bool
 vectorOutside framelength v =
-    outside framelength (v .depth) (v .length) (v .offset) (λ k. spot v k .plus) (λ k. spot v k .minus)
+    outside framelength (v .depth) (v .length) (v .offset) (λ k. position v k .plus) (λ k. position v k .minus)
 
 -- the first byte of pixel k
 unfoldable pub vectorByte : Vector → ℕ → ℕ
-vectorByte v k = firstByte (v .offset) (spot v k .plus) (spot v k .minus)
+vectorByte v k = firstByte (v .offset) (position v k .plus) (position v k .minus)
 
 -- "Source is SRC_COLOR_FG, pattern PAT_COLOR_0; the raster rule and destination reads are a BLT's."
 unfoldable pub drawVector : Vector → ℕ → List ℕ → List ℕ

@@ -39,6 +39,12 @@ pub struct State {
     pub write: usize,
 }
 
+// Where pixels lie in frame memory: their lowest and their highest byte, or some byte of one outside.
+pub enum Extent {
+    Inside { low: usize, high: usize },
+    Outside,
+}
+
 // The word that a run reports.
 pub enum RunWord {
     Stopped,
@@ -49,7 +55,7 @@ pub enum RunWord {
 // What a call answers: its refusal's number; or, accepted, the room after it; or, from a run, also its word and its units.
 pub enum Reply {
     Refused(u32),
-    Done {
+    Accepted {
         room: usize,
     },
     Ran {
@@ -109,8 +115,8 @@ pub struct Vector {
     pub initial: i16,
     // Y is the major axis; the major and the minor direction are positive
     pub ymajor: bool,
-    pub majorup: bool,
-    pub minorup: bool,
+    pub majorpositive: bool,
+    pub minorpositive: bool,
     // raster operation, and the values of source and pattern
     pub code: u32,
     pub foreground: u32,
@@ -118,7 +124,7 @@ pub struct Vector {
 }
 
 // Where a pixel of a vector lies: what is added to the destination offset and what is taken away, and the error there.
-pub struct Spot {
+pub struct Position {
     pub plus: usize,
     pub minus: usize,
     pub error: i16,

@@ -5,7 +5,7 @@ ghost use lib.ListN.{length};
 ghost use Rattle.model.specs.Formats.{Depth};
 ghost use Rattle.model.specs.Pixel.{readPixel, storePixel};
 ghost use Rattle.model.specs.Raster.{raster};
-ghost use Rattle.model.specs.Pattern.{patternBit, patternPlace};
+ghost use Rattle.model.specs.Pattern.{patternBit, patternIndex};
 ghost use Rattle.laws.specs.Whole.{mask, choice, byPattern};
 ghost use Rattle.pixel.specs.Prepared.{Prepared};
 
@@ -200,9 +200,9 @@ pub fn pattern_bit(data0: u32, data1: u32, row: usize, column: usize) -> u32
 }
 
 // A pattern row or column, n steps from the first pixel's.
-pub fn pattern_place(negative: bool, low: usize, n: usize) -> usize
+pub fn pattern_index(negative: bool, low: usize, n: usize) -> usize
     requires { ⌜ (low < 8) × (n < 4294967296) ⌝ }
-    ensures { λ r. ⌜ (r ≡ patternPlace negative low n) × (r < 8) ⌝ }
+    ensures { λ r. ⌜ (r ≡ patternIndex negative low n) × (r < 8) ⌝ }
 {
     if negative {
         return (low + 8 * n - n) % 8;

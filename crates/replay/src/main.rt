@@ -13,7 +13,7 @@ fn main() {
         return;
     };
     let mut ring = recording::ring_buffer();
-    let mut lines = text::page();
+    let mut lines = text::line_buffer();
     let k = recording::replay_text(&mut memory, n, &mut ring, &mut lines);
     recording::write(&lines[..k]);
 }

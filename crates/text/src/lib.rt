@@ -23,7 +23,7 @@ pub fn number_of(reply: Reply) -> u32
 {
     match reply {
         Reply::Refused(number) => number,
-        Reply::Done { .. } => 0,
+        Reply::Accepted { .. } => 0,
         Reply::Ran { .. } => 0,
     }
 }
@@ -33,7 +33,7 @@ fn units_of(reply: Reply) -> u32
 {
     match reply {
         Reply::Refused(_) => 0,
-        Reply::Done { .. } => 0,
+        Reply::Accepted { .. } => 0,
         Reply::Ran { units, .. } => units,
     }
 }
@@ -43,7 +43,7 @@ fn room_of(reply: Reply) -> usize
 {
     match reply {
         Reply::Refused(_) => 0,
-        Reply::Done { room } => room,
+        Reply::Accepted { room } => room,
         Reply::Ran { room, .. } => room,
     }
 }
@@ -54,7 +54,7 @@ fn last_number(reply: Reply, stop: u32) -> u32
 {
     match reply {
         Reply::Refused(no) => no,
-        Reply::Done { .. } => 0,
+        Reply::Accepted { .. } => 0,
         Reply::Ran { .. } => stop,
     }
 }
@@ -62,7 +62,7 @@ fn last_number(reply: Reply, stop: u32) -> u32
 // ---- pieces of text
 
 // 512 zeros: a buffer for the lines of a replay, or one line of a trace.
-pub fn page() -> [u8; 512]
+pub fn line_buffer() -> [u8; 512]
     ensures { λ r. ⌜ 512 ≡ length r ⌝ }
 {
     [0; 512]
@@ -140,7 +140,7 @@ fn put_state(out: &mut [u8], at: usize, reply: Reply) -> usize
 {
     match reply {
         Reply::Refused(_) => put(out, at, b"refused"),
-        Reply::Done { .. } => put(out, at, b"waiting"),
+        Reply::Accepted { .. } => put(out, at, b"waiting"),
         Reply::Ran { word, .. } => put_word(out, at, word),
     }
 }
@@ -224,7 +224,7 @@ fn put_answer(out: &mut [u8], at: usize, reply: Reply) -> usize
 {
     match reply {
         Reply::Refused(number) => put_numbered(out, at, b"refused-", number as u64),
-        Reply::Done { .. } => put(out, at, b"0"),
+        Reply::Accepted { .. } => put(out, at, b"0"),
         Reply::Ran { word, .. } => put_word(out, at, word),
     }
 }

@@ -31,7 +31,7 @@ fn do_record(fd: i32, s: State, ring: &mut [u32], frame: &mut [u8]) -> Turn
             state: s,
         };
     };
-    let mut line = text::page();
+    let mut line = text::line_buffer();
     let step = recording::trace_step(&part[..n], s, ring, frame, &mut line);
     let k = step.length;
     let written = recording::write(&line[..k]);
@@ -81,7 +81,7 @@ fn go_on(fd: i32, head: &[u8], s: State)
 
 // Sets the engine up, writes the line of it, and goes on.
 fn trace(fd: i32, head: &[u8]) {
-    let mut line = text::page();
+    let mut line = text::line_buffer();
     let begin = recording::trace_begin(head, &mut line);
     let k = begin.length;
     let written = recording::write(&line[..k]);

@@ -11,9 +11,9 @@ use Rattle.model.specs.Bounds.{byteOutside, some, outside, firstByte}
 use Rattle.model.specs.Formats.{Depth}
 use Rattle.model.specs.Pixel.{readPixel, storePixel}
 use Rattle.model.specs.Raster.{raster}
-use Rattle.model.specs.VectorPixel.{spot, vectorOutside, vectorByte, drawVector}
+use Rattle.model.specs.VectorPixel.{position, vectorOutside, vectorByte, drawVector}
 use Rattle.model.specs.declared.Vector.{Vector}
-use Rattle.model.specs.declared.Spot.{Spot}
+use Rattle.model.specs.declared.Position.{Position}
 use Rattle.laws.specs.Some.{some-not, some-at, some-none}
 use Rattle.laws.specs.Ranges.{FitVector}
 use Rattle.laws.specs.Order.{inOrder, vectorPixels}
@@ -68,51 +68,51 @@ module _ (size depth plus minus : ℕ) where
 
 module _ (size : ℕ) (v : Vector) where
   -- some byte of the pixel at a place lies outside
-  abbrev pub spotOutside : Spot → Bool
-  spotOutside s = pixelOutside size (v .depth) (v .offset + s .plus) (s .minus)
+  abbrev pub positionOutside : Position → Bool
+  positionOutside s = pixelOutside size (v .depth) (v .offset + s .plus) (s .minus)
 
   -- some byte of the first n pixels lies outside
   unfoldable pub someOutside : ℕ → Bool
-  someOutside n = some n (λ k. spotOutside (spot v k))
+  someOutside n = some n (λ k. positionOutside (position v k))
 
   pub none-outside : someOutside 0 ≡ false
   unfolding someOutside some
   none-outside = refl
 
   -- one pixel more
-  pub next-inside : (k : ℕ) {s : Spot} → s ≡ spot v k → someOutside k ≡ false → spotOutside s ≡ false
+  pub next-inside : (k : ℕ) {s : Position} → s ≡ position v k → someOutside k ≡ false → positionOutside s ≡ false
       → someOutside (k + 1) ≡ false
   unfolding someOutside some
-  next-inside k e p q = let r : spotOutside (spot v k) ≡ false = rw e at q in rw add-one (simp (p, r))
+  next-inside k e p q = let r : positionOutside (position v k) ≡ false = rw e at q in rw add-one (simp (p, r))
 
   -- a vector with a pixel outside, and one with none
-  pub is-outside : (k : ℕ) {s : Spot} → s ≡ spot v k → k < v .length → spotOutside s ≡ true → true ≡ vectorOutside size v
+  pub is-outside : (k : ℕ) {s : Position} → s ≡ position v k → k < v .length → positionOutside s ≡ true → true ≡ vectorOutside size v
   unfolding outside pixelOutside
-  is-outside k e l h = sym (some-at (v .length) (λ k. spotOutside (spot v k)) k l (rw e at h))
+  is-outside k e l h = sym (some-at (v .length) (λ k. positionOutside (position v k)) k l (rw e at h))
 
   pub is-inside : (k : ℕ) → k ≡ v .length → someOutside k ≡ false → false ≡ vectorOutside size v
   unfolding outside pixelOutside someOutside
   is-inside k e h = sym (rw e at h)
 
   -- where each pixel of a vector that judging accepts lies
-  pub drawn-inside : (k : ℕ) {s : Spot} → FitVector size v → k < v .length → s ≡ spot v k
+  pub drawn-inside : (k : ℕ) {s : Position} → FitVector size v → k < v .length → s ≡ position v k
       → (s .minus ≤ v .offset + s .plus) × (firstByte (v .offset) (s .plus) (s .minus) + v .depth ≤ size)
   unfolding outside pixelOutside
   drawn-inside k f l e =
       rw e
-      (pixel-facts size (v .depth) (v .offset + spot v k .plus) (spot v k .minus) (f .ranged .deep)
-      (some-not (v .length) (λ k. spotOutside (spot v k)) k (f .inside) l))
+      (pixel-facts size (v .depth) (v .offset + position v k .plus) (position v k .minus) (f .ranged .deep)
+      (some-not (v .length) (λ k. positionOutside (position v k)) k (f .inside) l))
 
 -- ---- drawing
 
 -- the pixel at a place
-abbrev pub painted : Vector → Spot → List ℕ → List ℕ
+abbrev pub painted : Vector → Position → List ℕ → List ℕ
 painted v s frame =
     let at = firstByte (v .offset) (s .plus) (s .minus) in
     storePixel (v .depth) frame at (raster (8 * v .depth) (v .code) (v .color) (v .foreground) (readPixel (v .depth) frame at))
 
 -- what is left of n pixels from number k on after i of them and one more
-pub draw-more : (v : Vector) (k n i : ℕ) {s : Spot} (frame : List ℕ) → i < n → s ≡ spot v (k + i)
+pub draw-more : (v : Vector) (k n i : ℕ) {s : Position} (frame : List ℕ) → i < n → s ≡ position v (k + i)
     → vectorPixels v (k + (i + 1)) (n - (i + 1)) (painted v s frame) ≡ vectorPixels v (k + i) (n - i) frame
 unfolding inOrder drawVector vectorByte
 draw-more v k n i frame l q =

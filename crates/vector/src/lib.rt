@@ -1,5 +1,5 @@
 // Vectors: the registers that describe one, the steps from pixel to pixel, the bytes that it reaches, and its drawing.
-use model::Spot;
+use model::Position;
 use model::Vector;
 ghost use mathlib.Core.Path.{_≡_};
 ghost use mathlib.Core.Bool.{_||_};
@@ -7,7 +7,7 @@ ghost use Prim.Native.Nat.{_+_, _^_, _≤_, _<_};
 ghost use lib.ListN.{length};
 ghost use lib.IntN.{pos};
 ghost use lib.Signed.{ltZ};
-ghost use Rattle.model.specs.VectorPixel.{signed16, vectorOf, majorStep, minorStep, moved, step, spot, vectorOutside};
+ghost use Rattle.model.specs.VectorPixel.{signed16, vectorOf, majorStep, minorStep, moved, step, position, vectorOutside};
 ghost use Rattle.laws.specs.Order.{vectorPixels};
 ghost use Rattle.laws.specs.Ranges.{RangedVector, FitVector};
 ghost use Rattle.laws.specs.Walks.{Near};
@@ -58,8 +58,8 @@ pub fn vector_of(registers: [u32; 17]) -> Vector
     let diagonal = signed(fields::bits(terms, 15, 0));
     let initial = signed(fields::bits(size, 15, 0));
     let ymajor = fields::is_set(mode, 0);
-    let majorup = fields::is_set(mode, 1);
-    let minorup = fields::is_set(mode, 2);
+    let majorpositive = fields::is_set(mode, 1);
+    let minorpositive = fields::is_set(mode, 2);
     Vector {
         depth,
         length: length as usize,
@@ -69,8 +69,8 @@ pub fn vector_of(registers: [u32; 17]) -> Vector
         diagonal,
         initial,
         ymajor,
-        majorup,
-        minorup,
+        majorpositive,
+        minorpositive,
         code,
         foreground: registers[SRC_COLOR_FG],
         color: registers[PAT_COLOR_0],
@@ -117,7 +117,7 @@ fn minor_step(v: Vector) -> usize
 }
 
 // n bytes further, or back.
-fn shifted(positive: bool, n: usize, s: Spot) -> Spot
+fn shifted(positive: bool, n: usize, s: Position) -> Position
     requires { ⌜ (n < 2 ^ 32) × (s .plus < 2 ^ 33) × (s .minus < 2 ^ 33) ⌝ }
     ensures { λ r. ⌜ r ≡ moved positive n s ⌝ }
 {
@@ -125,13 +125,13 @@ fn shifted(positive: bool, n: usize, s: Spot) -> Spot
     let minus = s.minus;
     let error = s.error;
     if positive {
-        return Spot {
+        return Position {
             plus: plus + n,
             minus,
             error,
         };
     }
-    Spot {
+    Position {
         plus,
         minus: minus + n,
         error,
@@ -140,25 +140,25 @@ fn shifted(positive: bool, n: usize, s: Spot) -> Spot
 
 // The next pixel's place. The error stays a signed 16-bit number: the axial term, not negative, is added to a negative
 // error, and the diagonal term, not positive, to one that is not negative.
-fn next(v: Vector, s: Spot) -> Spot
+fn next(v: Vector, s: Position) -> Position
     requires { ⌜ (RangedVector v) × (Near s) ⌝ }
     ensures { λ r. ⌜ r ≡ step v s ⌝ }
 {
     let error = s.error;
     let axial = v.axial;
     let diagonal = v.diagonal;
-    let majorup = v.majorup;
-    let minorup = v.minorup;
-    let along = shifted(majorup, major_step(v), s);
+    let majorpositive = v.majorpositive;
+    let minorpositive = v.minorpositive;
+    let along = shifted(majorpositive, major_step(v), s);
     if error < 0 {
-        return Spot {
+        return Position {
             plus: along.plus,
             minus: along.minus,
             error: error + axial,
         };
     }
-    let aside = shifted(minorup, minor_step(v), along);
-    Spot {
+    let aside = shifted(minorpositive, minor_step(v), along);
+    Position {
         plus: aside.plus,
         minus: aside.minus,
         error: error + diagonal,
@@ -166,11 +166,11 @@ fn next(v: Vector, s: Spot) -> Spot
 }
 
 // The first pixel's place: the destination offset, with the initial error.
-fn start(v: Vector) -> Spot
-    ensures { λ r. ⌜ r ≡ spot v 0 ⌝ }
+fn start(v: Vector) -> Position
+    ensures { λ r. ⌜ r ≡ position v 0 ⌝ }
 {
     let initial = v.initial;
-    Spot {
+    Position {
         plus: 0,
         minus: 0,
         error: initial,
@@ -178,9 +178,9 @@ fn start(v: Vector) -> Spot
 }
 
 // The place of pixel k, where a vector that was left in its middle is taken up again.
-fn place(v: Vector, k: usize) -> Spot
+fn place(v: Vector, k: usize) -> Position
     requires { ⌜ (RangedVector v) × (k ≤ v .length) ⌝ }
-    ensures { λ r. ⌜ r ≡ spot v k ⌝ }
+    ensures { λ r. ⌜ r ≡ position v k ⌝ }
 {
     let mut s = start(v);
     let mut i = 0;

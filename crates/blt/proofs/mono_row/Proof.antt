@@ -26,11 +26,11 @@ to-byte-requires c κs = (c .before .before .before .pre .0 .fit, c .before .bef
 from-byte-requires : tie.Need-from-byte-requires Inv-loop μ-loop
 from-byte-requires c κs = (c .before .before .before .before .pre .0 .fit, c .before .before .before .before .pre .0 .start)
 
-div-pattern-place : tie.Need-div-pattern-place Inv-loop μ-loop
-div-pattern-place c = omega (arith, c .before .before .before .before .before .pre .0 .fit .to .wide)
+div-pattern-index : tie.Need-div-pattern-index Inv-loop μ-loop
+div-pattern-index c = omega (arith, c .before .before .before .before .before .pre .0 .fit .to .wide)
 
-pattern-place-requires : tie.Need-pattern-place-requires Inv-loop μ-loop
-pattern-place-requires c κs = (c .before .before .before .before .before .pre .0 .fit .row-most, omega (arith, div-le-self (c .before .before .before .before .before .args .k) (c .before .before .before .before .before .args .b .width), area-most (c .before .before .before .before .before .pre .0 .fit .to), c .before .before .before .before .before .pre .0 .start))
+pattern-index-requires : tie.Need-pattern-index-requires Inv-loop μ-loop
+pattern-index-requires c κs = (c .before .before .before .before .before .pre .0 .fit .row-most, omega (arith, div-le-self (c .before .before .before .before .before .args .k) (c .before .before .before .before .before .args .b .width), area-most (c .before .before .before .before .before .pre .0 .fit .to), c .before .before .before .before .before .pre .0 .start))
 
 rem-first : tie.Need-rem-first Inv-loop μ-loop
 rem-first c = omega (arith, c .before .before .before .before .before .before .pre .0 .fit .to .wide)
@@ -43,7 +43,7 @@ add-ink-of c = omega (arith, c .before .before .before .before .before .before .
 
 ink-of-requires : tie.Need-ink-of-requires Inv-loop μ-loop
 ink-of-requires c κs =
-    (c .before .before .before .before .before .before .before .before .pre .0 .fit .column-most, c .before .before .pattern-place .ensures .1, omega (arith, c .before .before .before .before .before .before .before .before .pre .0 .row, c .before .before .before .before .before .before .before .before .pre .0 .fit .to .wide-most, c .loop-test .taken))
+    (c .before .before .before .before .before .before .before .before .pre .0 .fit .column-most, c .before .before .pattern-index .ensures .1, omega (arith, c .before .before .before .before .before .before .before .before .pre .0 .row, c .before .before .before .before .before .before .before .before .pre .0 .fit .to .wide-most, c .loop-test .taken))
 
 walk-on-requires : tie.Need-walk-on-requires Inv-loop μ-loop
 walk-on-requires c κs = row-walk (c .before .before .before .before .before .before .before .before .before .pre .0) (to-inside (c .before .before .before .before .before .before .before .before .before .pre .0 .fit)) (c .before .loop-test .taken) (c .before .before .before .before .before .to-byte .ensures) (c .before .before .loop .inv .goes)
@@ -83,7 +83,7 @@ loop-again c =
     remain-next m l
     (c .before .before .before .mono-dot .ensures
     ∙ mono-drawn _ (c .before .before .before .before .before .before .before .before .before .before .before .before .before .before .before .before .pre .1) _ _
-    (c .before .before .before .before .before .before .before .ink-of .ensures .0 ∙ ink-row _ _ _ (omega (arith, r .row)) (c .before .before .before .before .before .before .before .before .before .before .pattern-place .ensures .0))
+    (c .before .before .before .before .before .before .before .ink-of .ensures .0 ∙ ink-row _ _ _ (omega (arith, r .row)) (c .before .before .before .before .before .before .before .before .before .before .pattern-index .ensures .0))
     (row-place r (to-inside (r .fit)) l (c .before .before .before .before .before .before .before .before .before .before .before .before .to-byte .ensures) (m .goes) (c .before .before .before .before .before .before .walk-on .ensures))
     (row-place r (from-inside (r .fit)) l (c .before .before .before .before .before .before .before .before .before .before .before .from-byte .ensures) (m .goes) (c .before .before .before .before .before .walk-on2 .ensures)))
 
@@ -103,8 +103,8 @@ mono-row-spec =
     prepare-requires-2
     to-byte-requires
     from-byte-requires
-    div-pattern-place
-    pattern-place-requires
+    div-pattern-index
+    pattern-index-requires
     rem-first
     loop-holds
     add-ink-of

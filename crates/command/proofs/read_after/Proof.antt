@@ -1,7 +1,7 @@
 use mathlib.Core.Path.{sym, _∙_}
 use native.Mathlib.Omega.{arith}
 use Rattle.model.specs.Command.{readAfter}
-use Rattle.laws.specs.Circle.{wrap-before, wrap-past}
+use Rattle.laws.specs.Modular.{wrap-before, wrap-past}
 use borrow.Author.Needs.{needs}
 use Rattle.command.proofs.read_after.Statement.{statement}
 use Rattle.command.proofs.read_after.Tie as tie

@@ -1,5 +1,5 @@
 use mathlib.Core.Path.{ap}
-use Rattle.drive.proofs.Lists.{standing, rest, one-call, no-call, all-calls}
+use Rattle.drive.proofs.Lists.{configuration, rest, one-call, no-call, all-calls}
 use Prim.Native.Nat.{ℕ, _-_, _*_, _≤_}
 use mathlib.Core.Path.{_≡_, refl, sym, _∙_}
 use native.Mathlib.Omega.{arith}
@@ -13,7 +13,7 @@ use Rattle.drive.proofs.drive.Tie as tie
 abbrev Inv-loop : tie.InvT-loop
 Inv-loop kinds positions budgets words frame₀ t₀ sum₀ i₀ frame t sum i =
     (i ≤ length kinds) × (sum ≤ 4294967295 * i) × (length frame ≡ length frame₀)
-    × (rest words kinds positions budgets (length kinds) 0 (standing t₀ frame₀ 0) ≡ rest words kinds positions budgets (length kinds) i (standing t frame sum))
+    × (rest words kinds positions budgets (length kinds) 0 (configuration t₀ frame₀ 0) ≡ rest words kinds positions budgets (length kinds) i (configuration t frame sum))
 
 abbrev μ-loop : tie.MeasureT-loop
 μ-loop kinds positions budgets words frame₀ t₀ sum₀ i₀ frame t sum i = length kinds - i
@@ -76,7 +76,7 @@ returns c =
     let e : l .i ≡ length (now (a .kinds)) = omega arith in
     demanded _ _ _ _ _
     (sym (all-calls (now (a .words)) (now (a .kinds)) (now (a .positions)) (now (a .budgets)) (length (now (a .kinds))) _ ∙ l .inv .3
-    ∙ ap (λ (i : ℕ). rest (now (a .words)) (now (a .kinds)) (now (a .positions)) (now (a .budgets)) (length (now (a .kinds))) i (standing (l .t) (l .frame) (l .sum))) e
+    ∙ ap (λ (i : ℕ). rest (now (a .words)) (now (a .kinds)) (now (a .positions)) (now (a .budgets)) (length (now (a .kinds))) i (configuration (l .t) (l .frame) (l .sum))) e
     ∙ no-call (now (a .words)) (now (a .kinds)) (now (a .positions)) (now (a .budgets)) (length (now (a .kinds))) _))
 
 pub drive-spec : {M : Type 1} → statement M

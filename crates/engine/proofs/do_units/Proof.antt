@@ -18,13 +18,13 @@ loop-holds : tie.Need-loop-holds Inv-loop μ-loop
 loop-holds c = going-start (now (c .before .before .args .words)) (c .before .before .args .s) (now (c .before .before .args .frame)) (c .before .before .args .budget) (c .before .before .pre)
 
 is-possible-requires : tie.Need-is-possible-requires Inv-loop μ-loop
-is-possible-requires c κs = fit-core (now (c .before .before .before .before .args .words)) _ (machineOf (c .before .loop .t) (c .before .loop .frame)) (c .before .loop .inv .sound)
+is-possible-requires c κs = fit-core (now (c .before .before .before .before .args .words)) _ (machineOf (c .before .loop .t) (c .before .loop .frame)) (c .before .loop .inv .wellformed)
 
 sub-advance : tie.Need-sub-advance Inv-loop μ-loop
 sub-advance c = let h = c .before .before .before .before .loop .inv .most in omega arith
 
 advance-requires : tie.Need-advance-requires Inv-loop μ-loop
-advance-requires c κs = (c .before .before .before .before .loop .inv .sound, sym (c .before .before .is-possible .ensures) ∙ c .before .if1 .taken, omega arith)
+advance-requires c κs = (c .before .before .before .before .loop .inv .wellformed, sym (c .before .before .is-possible .ensures) ∙ c .before .if1 .taken, omega arith)
 
 add-used : tie.Need-add-used Inv-loop μ-loop
 add-used c = let h = c .before .before .before .before .advance .ensures .most in omega arith

@@ -1,4 +1,4 @@
-use Rattle.laws.specs.Circle.{accepted-in}
+use Rattle.laws.specs.Modular.{accepted-in}
 use mathlib.Core.Path.{sym, _∙_}
 use borrow.Author.Tests.{eq-eqb, ne-eqb}
 use Rattle.model.specs.Calls.{publish}

@@ -1,7 +1,7 @@
 use mathlib.Core.Path.{sym, ap, _∙_}
 use denote.Ref.{now}
 use Rattle.model.specs.Calls.{refused}
-use Rattle.engine.proofs.Runs.{run-refused, run-sound, run-finished}
+use Rattle.engine.proofs.Runs.{run-refused, run-wellformed, run-finished}
 use borrow.Author.Needs.{needs}
 use Rattle.engine.proofs.run.Statement.{statement}
 use Rattle.engine.proofs.run.Tie as tie
@@ -10,7 +10,7 @@ run-refusal-requires : tie.Need-run-refusal-requires
 run-refusal-requires c κs = search needs
 
 do-units-requires : tie.Need-do-units-requires
-do-units-requires c κs = run-sound (now (c .before .before .before .before .before .args .words)) (c .before .before .before .before .before .args .s) (now (c .before .before .before .before .before .args .frame)) (c .before .before .before .before .before .args .budget) (sym (c .before .before .run-refusal .ensures) ∙ c .before .if1 .taken)
+do-units-requires c κs = run-wellformed (now (c .before .before .before .before .before .args .words)) (c .before .before .before .before .before .args .s) (now (c .before .before .before .before .before .args .frame)) (c .before .before .before .before .before .args .budget) (sym (c .before .before .run-refusal .ensures) ∙ c .before .if1 .taken)
 
 word-of-requires : tie.Need-word-of-requires
 word-of-requires c κs = search needs

@@ -33,8 +33,8 @@ returns-2 c = search needs
 ring-buffer-requires : tie.Need-ring-buffer-requires
 ring-buffer-requires c κs = search needs
 
-page-requires : tie.Need-page-requires
-page-requires c κs = search needs
+line-buffer-requires : tie.Need-line-buffer-requires
+line-buffer-requires c κs = search needs
 
 slice-aggregate-replay-text : tie.Need-slice-aggregate-replay-text
 slice-aggregate-replay-text c = search needs
@@ -49,7 +49,7 @@ replay-text-requires : tie.Need-replay-text-requires
 replay-text-requires c κs =
     let memory = c .before .before .before .before .before .before .before .before .before .read .kept .1 .0 ∙ ap length (c .before .before .before .before .before .before .before .before .before .before .before .frame-buffer .ensures) ∙ length-replicate {A = ℕ} 32_768 0 in
     let ring = ap length (c .before .before .before .before .ring-buffer .ensures) ∙ length-replicate {A = ℕ} 4_096 0 in
-    (rw (c .before .before .before .before .before .before .got .given .1) at (c .before .before .before .before .before .before .before .before .before .read .ensures), omega arith, omega arith, omega (arith, c .before .before .before .page .ensures))
+    (rw (c .before .before .before .before .before .before .got .given .1) at (c .before .before .before .before .before .before .before .before .before .read .ensures), omega arith, omega arith, omega (arith, c .before .before .before .line-buffer .ensures))
 
 array-share-prefix-lines : tie.Need-array-share-prefix-lines
 array-share-prefix-lines c = search needs
@@ -76,7 +76,7 @@ main-spec =
     enum-told
     returns-2
     ring-buffer-requires
-    page-requires
+    line-buffer-requires
     slice-aggregate-replay-text
     slice-aggregate-replay-text-2
     slice-aggregate-replay-text-3

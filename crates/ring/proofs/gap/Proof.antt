@@ -1,4 +1,4 @@
-use Rattle.laws.specs.Circle.{distance-ahead, distance-behind}
+use Rattle.laws.specs.Modular.{distance-ahead, distance-behind}
 use mathlib.Core.Path.{sym}
 use native.Mathlib.Omega.{arith}
 use borrow.Author.Needs.{needs}

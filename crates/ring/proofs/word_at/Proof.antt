@@ -1,5 +1,5 @@
 use Rattle.model.specs.Ring.{wordAt}
-use Rattle.laws.specs.Circle.{wrap-before, wrap-past}
+use Rattle.laws.specs.Modular.{wrap-before, wrap-past}
 use native.Mathlib.Omega.{arith}
 use borrow.Author.Needs.{needs}
 use Rattle.ring.proofs.word_at.Statement.{statement}

@@ -25,8 +25,8 @@ enum-told c = search needs
 returns : tie.Need-returns
 returns c = record { parts = []; all-go = tt; after-is = refl }
 
-page-requires : tie.Need-page-requires
-page-requires c κs = search needs
+line-buffer-requires : tie.Need-line-buffer-requires
+line-buffer-requires c κs = search needs
 
 array-share-prefix-part : tie.Need-array-share-prefix-part
 array-share-prefix-part c = rw (c .before .before .got .given .1) at (c .before .before .before .before .before .read .ensures)
@@ -83,7 +83,7 @@ do-record-spec =
     enum-known-got
     enum-told
     returns
-    page-requires
+    line-buffer-requires
     array-share-prefix-part
     slice-aggregate-trace-step
     slice-aggregate-trace-step-2

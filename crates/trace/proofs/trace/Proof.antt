@@ -3,8 +3,8 @@ use borrow.Author.Needs.{needs}
 use Rattle.trace.proofs.trace.Statement.{statement}
 use Rattle.trace.proofs.trace.Tie as tie
 
-page-requires : tie.Need-page-requires
-page-requires c κs = search needs
+line-buffer-requires : tie.Need-line-buffer-requires
+line-buffer-requires c κs = search needs
 
 slice-aggregate-trace-begin : tie.Need-slice-aggregate-trace-begin
 slice-aggregate-trace-begin c = search needs
@@ -37,7 +37,7 @@ pub trace-spec : {M : Type 1} → statement M
 trace-spec =
     tie.close
     (tie.spec
-    page-requires
+    line-buffer-requires
     slice-aggregate-trace-begin
     trace-begin-requires
     array-share-prefix-line

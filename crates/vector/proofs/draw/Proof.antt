@@ -4,17 +4,17 @@ use mathlib.Core.Path.{_≡_, refl, sym, ap, _∙_}
 use native.Mathlib.Omega.{arith}
 use native.Mathlib.Nat.{add-zero, sub-zero}
 use lib.ListN.{length}
-use Rattle.model.specs.VectorPixel.{spot}
+use Rattle.model.specs.VectorPixel.{position}
 use Rattle.laws.specs.Order.{vectorPixels}
 use Rattle.laws.specs.Pixels.{length-store}
-use Rattle.laws.specs.Walks.{spot-near, spot-next}
+use Rattle.laws.specs.Walks.{position-near, position-next}
 use Rattle.vector.proofs.Frames.{drawn-inside, draw-more, draw-none}
 use Rattle.vector.proofs.draw.Statement.{statement}
 use Rattle.vector.proofs.draw.Tie as tie
 
 abbrev Inv-loop : tie.InvT-loop
 Inv-loop f₀ v k n depth offset source op s₀ i₀ f s i =
-    (i ≤ n) × (s ≡ spot v (k + i)) × (length f ≡ length f₀)
+    (i ≤ n) × (s ≡ position v (k + i)) × (length f ≡ length f₀)
     × (vectorPixels v (k + i) (n - i) f ≡ vectorPixels v k n f₀)
 
 abbrev μ-loop : tie.MeasureT-loop
@@ -32,7 +32,7 @@ loop-holds c = (omega arith, rw add-zero (c .place .ensures), refl, rw (add-zero
 add-at : tie.Need-add-at Inv-loop μ-loop
 add-at c =
     let r = c .before .before .before .before .before .pre .0 .ranged in
-    omega (arith, r .offset-most, spot-near _ (c .before .before .before .before .before .args .k + c .before .loop .i) r (omega arith) (c .before .loop .inv .1))
+    omega (arith, r .offset-most, position-near _ (c .before .before .before .before .before .args .k + c .before .loop .i) r (omega arith) (c .before .loop .inv .1))
 
 sub-at : tie.Need-sub-at Inv-loop μ-loop
 sub-at c = drawn-inside _ _ (c .before .before .before .before .before .args .k + c .before .loop .i) (c .before .before .before .before .before .pre .0) (omega arith) (c .before .loop .inv .1) .0
@@ -45,7 +45,7 @@ paint-requires c κs =
 next-requires : tie.Need-next-requires Inv-loop μ-loop
 next-requires c κs =
     let r = c .before .before .before .before .before .before .before .before .before .pre .0 .ranged in
-    (r, spot-near _ (c .before .before .before .before .before .before .before .before .before .args .k + c .before .before .before .before .before .loop .i) r (omega arith) (c .before .before .before .before .before .loop .inv .1))
+    (r, position-near _ (c .before .before .before .before .before .before .before .before .before .args .k + c .before .before .before .before .before .loop .i) r (omega arith) (c .before .before .before .before .before .loop .inv .1))
 
 add-i : tie.Need-add-i Inv-loop μ-loop
 add-i c = omega arith
@@ -62,7 +62,7 @@ loop-again c =
     let h = c .before .before .before .before .before .before .loop .inv in
     let e : a .k + (i + 1) ≡ a .k + i + 1 = omega arith in (
       omega arith,
-      rw e (c .next .ensures ∙ spot-next _ _ (h .1)),
+      rw e (c .next .ensures ∙ position-next _ _ (h .1)),
       ap length p ∙ length-store _ _ _ _ ∙ h .2,
       rw (p, o .1, o .2) (draw-more _ (a .k) (a .n) i _ (c .before .before .before .before .before .loop-test .taken) (h .1) ∙ h .3),
     )

@@ -33,7 +33,7 @@ shifted-requires-2 c κs =
     let a = c .before .before .before .before .before .before .before .args in
     let m = c .before .before .before .major-step in
     rw (c .before .before .shifted .ensures)
-    (omega (arith, steps-most _ (c .before .before .before .before .before .before .before .pre .0), c .minor-step .ensures, m .ensures, moved-most (a .v .majorup) (m .result) (a .s)))
+    (omega (arith, steps-most _ (c .before .before .before .before .before .before .before .pre .0), c .minor-step .ensures, m .ensures, moved-most (a .v .majorpositive) (m .result) (a .s)))
 
 diagonal : (c : tie.After-shifted2) → Sum w16 (c .before .before .before .before .before .before .before .before .args .s .error) (c .before .before .before .before .before .before .before .before .args .v .diagonal) false
 diagonal c = fall (search needs) (search needs) (c .before .before .if1 .left) (c .before .before .before .before .before .before .before .before .pre .0 .diagonal-falls)

@@ -3,15 +3,15 @@ use Prim.Native.Nat.{_-_, _≤_}
 use mathlib.Core.Path.{_≡_, _∙_}
 use mathlib.Core.Bool.{false}
 use native.Mathlib.Omega.{arith}
-use Rattle.model.specs.VectorPixel.{spot}
+use Rattle.model.specs.VectorPixel.{position}
 use Rattle.laws.specs.Pixels.{depth-most}
-use Rattle.laws.specs.Walks.{spot-near, spot-next}
+use Rattle.laws.specs.Walks.{position-near, position-next}
 use Rattle.vector.proofs.Frames.{someOutside, none-outside, next-inside, is-outside, is-inside, pixel-in, pixel-below, pixel-above}
 use Rattle.vector.proofs.outside.Statement.{statement}
 use Rattle.vector.proofs.outside.Tie as tie
 
 abbrev Inv-loop : tie.InvT-loop
-Inv-loop framelength v depth length offset s₀ k₀ s k = (k ≤ v .length) × (s ≡ spot v k) × (someOutside framelength v k ≡ false)
+Inv-loop framelength v depth length offset s₀ k₀ s k = (k ≤ v .length) × (s ≡ position v k) × (someOutside framelength v k ≡ false)
 
 abbrev μ-loop : tie.MeasureT-loop
 μ-loop framelength v depth length offset s₀ k₀ s k = v .length - k
@@ -23,7 +23,7 @@ loop-holds : tie.Need-loop-holds Inv-loop μ-loop
 loop-holds c = (omega arith, c .start .ensures, none-outside _ _)
 
 add-sum : tie.Need-add-sum Inv-loop μ-loop
-add-sum c = omega (arith, c .before .before .before .pre .offset-most, spot-near _ (c .before .loop .k) (c .before .before .before .pre) (omega arith) (c .before .loop .inv .1))
+add-sum c = omega (arith, c .before .before .before .pre .offset-most, position-near _ (c .before .loop .k) (c .before .before .before .pre) (omega arith) (c .before .loop .inv .1))
 
 returns : tie.Need-returns Inv-loop μ-loop
 returns c =
@@ -33,7 +33,7 @@ returns c =
 add-if2 : tie.Need-add-if2 Inv-loop μ-loop
 add-if2 c =
     let p = c .before .before .before .before .pre in
-    omega (arith, p .offset-most, depth-most (p .deep), spot-near _ (c .before .before .loop .k) p (omega arith) (c .before .before .loop .inv .1))
+    omega (arith, p .offset-most, depth-most (p .deep), position-near _ (c .before .before .loop .k) p (omega arith) (c .before .before .loop .inv .1))
 
 returns-2 : tie.Need-returns-2 Inv-loop μ-loop
 returns-2 c =
@@ -42,7 +42,7 @@ returns-2 c =
     is-outside _ _ (l .k) (l .inv .1) (c .before .before .loop-test .taken) h
 
 next-requires : tie.Need-next-requires Inv-loop μ-loop
-next-requires c κs = let p = c .before .before .before .before .before .pre in (p, spot-near _ (c .before .before .before .loop .k) p (omega arith) (c .before .before .before .loop .inv .1))
+next-requires c κs = let p = c .before .before .before .before .before .pre in (p, position-near _ (c .before .before .before .loop .k) p (omega arith) (c .before .before .before .loop .inv .1))
 
 add-k : tie.Need-add-k Inv-loop μ-loop
 add-k c = omega arith
@@ -54,7 +54,7 @@ loop-again : tie.Need-loop-again Inv-loop μ-loop
 loop-again c =
     let h = c .before .before .before .before .loop .inv in (
       omega arith,
-      c .next .ensures ∙ spot-next _ _ (h .1),
+      c .next .ensures ∙ position-next _ _ (h .1),
       next-inside _ _ _ (h .1) (h .2) (pixel-in _ _ _ _ (c .before .before .if1 .left) (c .before .if2 .left)),
     )
 

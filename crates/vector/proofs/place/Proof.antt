@@ -2,13 +2,13 @@
 use Prim.Native.Nat.{_-_, _≤_}
 use mathlib.Core.Path.{_≡_, _∙_}
 use native.Mathlib.Omega.{arith}
-use Rattle.model.specs.VectorPixel.{spot}
-use Rattle.laws.specs.Walks.{spot-near, spot-next}
+use Rattle.model.specs.VectorPixel.{position}
+use Rattle.laws.specs.Walks.{position-near, position-next}
 use Rattle.vector.proofs.place.Statement.{statement}
 use Rattle.vector.proofs.place.Tie as tie
 
 abbrev Inv-loop : tie.InvT-loop
-Inv-loop v k s₀ i₀ s i = (i ≤ k) × (s ≡ spot v i)
+Inv-loop v k s₀ i₀ s i = (i ≤ k) × (s ≡ position v i)
 
 abbrev μ-loop : tie.MeasureT-loop
 μ-loop v k s₀ i₀ s i = k - i
@@ -20,7 +20,7 @@ loop-holds : tie.Need-loop-holds Inv-loop μ-loop
 loop-holds c = (omega arith, c .start .ensures)
 
 next-requires : tie.Need-next-requires Inv-loop μ-loop
-next-requires c κs = (c .before .before .before .pre .0, spot-near _ (c .before .loop .i) (c .before .before .before .pre .0) (omega arith) (c .before .loop .inv .1))
+next-requires c κs = (c .before .before .before .pre .0, position-near _ (c .before .loop .i) (c .before .before .before .pre .0) (omega arith) (c .before .loop .inv .1))
 
 add-i : tie.Need-add-i Inv-loop μ-loop
 add-i c = omega arith
@@ -29,7 +29,7 @@ loop-less : tie.Need-loop-less Inv-loop μ-loop
 loop-less c = omega arith
 
 loop-again : tie.Need-loop-again Inv-loop μ-loop
-loop-again c = (omega arith, c .next .ensures ∙ spot-next _ _ (c .before .before .loop .inv .1))
+loop-again c = (omega arith, c .next .ensures ∙ position-next _ _ (c .before .before .loop .inv .1))
 
 returns : tie.Need-returns Inv-loop μ-loop
 returns c = let e : c .before .loop .i ≡ c .before .before .before .args .k = omega arith in rw e at (c .before .loop .inv .1)

@@ -2,12 +2,12 @@
 use mir.Syntax.{w16}
 use mir.ValLaws.{toZ-ofZ}
 use borrow.Author.Needs.{needs}
-use Rattle.model.specs.VectorPixel.{spot}
+use Rattle.model.specs.VectorPixel.{position}
 use Rattle.vector.proofs.start.Statement.{statement}
 use Rattle.vector.proofs.start.Tie as tie
 
 returns : tie.Need-returns
-unfolding spot
+unfolding position
 returns c = rw (toZ-ofZ w16 (c .before .args .v .initial) (search needs))
 
 pub start-spec : {M : Type 1} → statement M

@@ -98,8 +98,8 @@ same : (v w : Vector)
     → v .diagonal ≡ w .diagonal
     → v .initial ≡ w .initial
     → v .ymajor ≡ w .ymajor
-    → v .majorup ≡ w .majorup
-    → v .minorup ≡ w .minorup
+    → v .majorpositive ≡ w .majorpositive
+    → v .minorpositive ≡ w .minorpositive
     → v .code ≡ w .code
     → v .foreground ≡ w .foreground
     → v .color ≡ w .color
@@ -113,8 +113,8 @@ same v w a b c d e f g h i j k l m = λ t. record {
   diagonal = f t;
   initial = g t;
   ymajor = h t;
-  majorup = i t;
-  minorup = j t;
+  majorpositive = i t;
+  minorpositive = j t;
   code = k t;
   foreground = l t;
   color = m t;

@@ -20,22 +20,22 @@ use Rattle.laws.specs.Pixels.{length-store}
 use Rattle.laws.specs.Units.{units-zero, units-stop, units-step}
 use Rattle.laws.specs.Fit.{Fit, fit-unit, fit-parts, parts-fit}
 
-pub record Sound (ring : List ℕ) (w : ℕ) (m : Machine) : Type 0 where
+pub record WellFormed (ring : List ℕ) (w : ℕ) (m : Machine) : Type 0 where
   pub fit : Fit (m .core) w
   pub ring-is : length ring ≡ m .core .ringlength
   pub frame-is : length (m .frame) ≡ m .core .framelength
 
--- ---- a run is accepted exactly where the machine is sound
+-- ---- a run is accepted exactly where the machine is well-formed
 
-pub sound-run : (ring : List ℕ) (s : State) (frame : List ℕ) → runRefusal ring s frame ≡ 0
-    → Sound ring (s .write) (machineOf s frame)
+pub wellformed-run : (ring : List ℕ) (s : State) (frame : List ℕ) → runRefusal ring s frame ≡ 0
+    → WellFormed ring (s .write) (machineOf s frame)
 unfolding runRefusal
-sound-run ring s frame e = go (unfit s) refl e
+wellformed-run ring s frame e = go (unfit s) refl e
   where
     lengths : Bool
     lengths = not (length ring =? s .core .ringlength) || not (length frame =? s .core .framelength)
 
-    same : (b : Bool) → lengths ≡ b → unfit s ≡ false → _≡_ {A = ℕ} (if b then 4 else 0) 0 → Sound ring (s .write) (machineOf s frame)
+    same : (b : Bool) → lengths ≡ b → unfit s ≡ false → _≡_ {A = ℕ} (if b then 4 else 0) 0 → WellFormed ring (s .write) (machineOf s frame)
     same true p u q = absurd (eqb-false 4 0 refl q)
     same false p u q =
         let h = neither (not (length ring =? s .core .ringlength)) _ p in
@@ -45,14 +45,14 @@ sound-run ring s frame e = go (unfit s) refl e
           frame-is = eqb-true _ _ (not-false _ (h .1));
         }
 
-    go : (b : Bool) → unfit s ≡ b → _≡_ {A = ℕ} (if b then 3 else if lengths then 4 else 0) 0 → Sound ring (s .write) (machineOf s frame)
+    go : (b : Bool) → unfit s ≡ b → _≡_ {A = ℕ} (if b then 3 else if lengths then 4 else 0) 0 → WellFormed ring (s .write) (machineOf s frame)
     go true p q = absurd (eqb-false 3 0 refl q)
     go false p q = same lengths refl p q
 
-pub run-sound : (ring : List ℕ) (s : State) (frame : List ℕ) → Sound ring (s .write) (machineOf s frame)
+pub run-wellformed : (ring : List ℕ) (s : State) (frame : List ℕ) → WellFormed ring (s .write) (machineOf s frame)
     → runRefusal ring s frame ≡ 0
 unfolding runRefusal
-run-sound ring s frame h =
+run-wellformed ring s frame h =
     rw (parts-fit s (h .fit), eq-eqb (length ring) (s .core .ringlength) (h .ring-is), eq-eqb (length frame) (s .core .framelength) (h .frame-is))
 
 -- ---- what a unit keeps
@@ -92,8 +92,8 @@ unit-keeps ring m = go (m .core .place) refl
         (record { ringlength-kept = refl; framelength-kept = refl; frame-kept = length-pixel kind (m .core .registers) k (m .frame) })
 
 module _ (ring : List ℕ) (w : ℕ) where
-  pub sound-unit : (m : Machine) → Sound ring w m → possible ring (m .core) w ≡ true → Sound ring w (unit ring m)
-  sound-unit m h e =
+  pub wellformed-unit : (m : Machine) → WellFormed ring w m → possible ring (m .core) w ≡ true → WellFormed ring w (unit ring m)
+  wellformed-unit m h e =
       let k = unit-keeps ring m in
       record {
         fit = fit-unit ring m w (h .fit) e;
@@ -101,12 +101,12 @@ module _ (ring : List ℕ) (w : ℕ) where
         frame-is = k .frame-kept ∙ h .frame-is ∙ sym (k .framelength-kept);
       }
 
-  pub sound-units : (n used : ℕ) (m : Machine) → Sound ring w m → Sound ring w (units ring w n used m .machine)
-  sound-units zero used m h = rw (units-zero ring w used m) h
-  sound-units (suc n) used m h = go (possible ring (m .core) w) refl (λ e. sound-units n (used + 1) (unit ring m) (sound-unit m h e))
+  pub wellformed-units : (n used : ℕ) (m : Machine) → WellFormed ring w m → WellFormed ring w (units ring w n used m .machine)
+  wellformed-units zero used m h = rw (units-zero ring w used m) h
+  wellformed-units (suc n) used m h = go (possible ring (m .core) w) refl (λ e. wellformed-units n (used + 1) (unit ring m) (wellformed-unit m h e))
     where
       go : (b : Bool) → possible ring (m .core) w ≡ b
-          → (possible ring (m .core) w ≡ true → Sound ring w (units ring w n (used + 1) (unit ring m) .machine))
-          → Sound ring w (units ring w (suc n) used m .machine)
+          → (possible ring (m .core) w ≡ true → WellFormed ring w (units ring w n (used + 1) (unit ring m) .machine))
+          → WellFormed ring w (units ring w (suc n) used m .machine)
       go true e i = rw (units-step ring w n used m e) (i e)
       go false e i = rw (units-stop ring w (suc n) used m e) h
