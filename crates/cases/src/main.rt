@@ -15,7 +15,7 @@ fn fill(offset: u32, height: u32) -> [u32; 64] {
 
 // Replays a ring with write at 17 and a budget of 100, and answers whether it ends with these lines.
 fn ends(ring: &[u32], frame: &mut [u8], lines: &[u8]) -> bool {
-    let mut text = text::line_buffer();
+    let mut text = io::buffer();
     let n = text::replay_lines(recording::replay(ring, frame, 17, 100), &mut text);
     check::same(&text[..n], lines)
 }

@@ -1,7 +1,7 @@
 -- Loading word by word: one word of the table, enabled or not, and the end of the table.
 use Prim.Native.Nat.{ℕ, _+_, _≤_, _<_}
 use mathlib.Core.Path.{_≡_, sym, ap, _∙_}
-use mathlib.Core.Bool.{Bool, true, false}
+use mathlib.Core.Bool.{Bool}
 use mathlib.Core.List.{List, _∷_}
 use native.Mathlib.Numerals.{add-one}
 use lib.ListN.{length, getD, set, drop, drop-of-length-le}
@@ -12,27 +12,15 @@ use Rattle.model.specs.Ring.{wordAt}
 use Rattle.model.specs.Command.{loadWords}
 
 module _ (ring : List ℕ) (read header : ℕ) (table : List ℕ) (i : ℕ) (registers : List ℕ) where
-  one-word : i < length table
+  pub load-word : (enabled : Bool) → i < length table → set? header i ≡ enabled
       → loadWords ring read header (drop i table) i registers
       ≡ loadWords ring read header (drop (i + 1) table) (i + 1)
-      (if set? header i then set registers (getD table i 0) (wordAt ring read (i + 1)) else registers)
+      (if enabled then set registers (getD table i 0) (wordAt ring read (i + 1)) else registers)
   unfolding loadWords
-  one-word h =
-      ap (λ (l : List ℕ). loadWords ring read header l i registers)
-      (drop-cons table i 0 h ∙ ap (λ (n : ℕ). getD table i 0 ∷ drop n table) (sym (add-one i)))
-
-  pub load-on : i < length table → set? header i ≡ true
-      → loadWords ring read header (drop i table) i registers
-      ≡ loadWords ring read header (drop (i + 1) table) (i + 1) (set registers (getD table i 0) (wordAt ring read (i + 1)))
-  load-on h e =
-      one-word h
-      ∙ ap (λ (b : Bool). loadWords ring read header (drop (i + 1) table) (i + 1) (if b then set registers (getD table i 0) (wordAt ring read (i + 1)) else registers)) e
-
-  pub load-off : i < length table → set? header i ≡ false
-      → loadWords ring read header (drop i table) i registers ≡ loadWords ring read header (drop (i + 1) table) (i + 1) registers
-  load-off h e =
-      one-word h
-      ∙ ap (λ (b : Bool). loadWords ring read header (drop (i + 1) table) (i + 1) (if b then set registers (getD table i 0) (wordAt ring read (i + 1)) else registers)) e
+  load-word enabled h e =
+      rw (← e)
+      (ap (λ (l : List ℕ). loadWords ring read header l i registers)
+      (drop-cons table i 0 h ∙ ap (λ (n : ℕ). getD table i 0 ∷ drop n table) (sym (add-one i))))
 
   pub load-end : length table ≤ i → loadWords ring read header (drop i table) i registers ≡ registers
   unfolding loadWords

@@ -1,31 +1,27 @@
-// Commands in the ring: the header's kind and its refusals 21 and 22, wholeness, the registers after loading, and the read
-// pointer after it.
+// Commands in the ring: what a header says, the refusals 21 and 22, the words that must wait, the registers after loading, and
+// the read pointer after it.
 ghost use mathlib.Core.Path.{_≡_};
-ghost use Prim.Native.Nat.{_+_, _-_, _≤_, _<_};
+ghost use Prim.Native.Nat.{_+_, _≤_, _<_};
 ghost use lib.ListN.{length, getD};
 ghost use Rattle.model.specs.Limits.{ringLeast, ringMost};
-ghost use Rattle.model.specs.Bits.{set?};
-ghost use Rattle.model.specs.Command.{kindOf, badHeader, wordRegisters, badReturn, headerRefusal, whole, loaded, readAfter};
+ghost use Rattle.model.specs.Registers.{registerCount};
+ghost use Rattle.model.specs.Refusals.{first};
+ghost use Rattle.model.specs.Command.{returns, kindOf, badHeader, wordRegisters, commandLength, primitiveOf, drawnBy, badReturn, headerRules, wholeWords, readAfter, loaded};
+ghost use Rattle.command.specs.Look.{look};
+use model::Drawn;
 use model::Kind;
+use model::Primitive;
+use model::REGISTERS;
+
+// ---- the header
 
 // The command's kind, of a header that 21 does not refuse.
 pub fn kind_of(header: u32) -> Kind
     ensures { λ r. ⌜ r ≡ kindOf header ⌝ }
 {
-    let kind = fields::bits(header, 30, 29);
-    if kind == 0b00 {
-        return Kind::Blt;
-    }
-    Kind::Vector
-}
-
-// How many words follow the header.
-pub fn word_count(kind: Kind) -> usize
-    ensures { λ r. ⌜ (r ≡ length (wordRegisters kind)) × (0 < r) × (r ≤ 16) ⌝ }
-{
-    match kind {
-        Kind::Blt => 16,
-        Kind::Vector => 13,
+    match fields::bits(header, 30, 29) {
+        0b00 => Kind::Blt,
+        _ => Kind::Vector,
     }
 }
 
@@ -33,100 +29,180 @@ pub fn word_count(kind: Kind) -> usize
 fn bad_header(header: u32) -> bool
     ensures { λ r. ⌜ r ≡ badHeader header ⌝ }
 {
-    let code = fields::bits(header, 30, 29);
-    if code == 0b00 {
-        let reserved = fields::bits(header, 27, 16);
-        return reserved != 0;
+    match fields::bits(header, 30, 29) {
+        0b00 => fields::bits(header, 27, 16) != 0,
+        0b01 => fields::bits(header, 27, 13) != 0,
+        _ => true,
     }
-    if code == 0b01 {
-        let reserved = fields::bits(header, 27, 13);
-        return reserved != 0;
-    }
-    true
 }
 
-// Whether W stands on a command that begins at ring word 0 or runs across the ring's end.
-fn bad_return(size: usize, read: usize, header: u32) -> bool
-    requires { ⌜ (read < size) × (size ≤ ringMost) ⌝ }
-    ensures { λ r. ⌜ r ≡ badReturn size read header ⌝ }
+// Whether it returns to ring word 0 afterwards: W.
+pub fn returns(header: u32) -> bool
+    ensures { λ r. ⌜ r ≡ returns header ⌝ }
 {
-    let returns = fields::is_set(header, 31);
-    if returns {
+    fields::is_set(header, 31)
+}
+
+// How many words follow the header.
+fn word_count(kind: Kind) -> usize
+    ensures { λ r. ⌜ (r ≡ length (wordRegisters kind)) × (0 < r) × (r < registerCount) ⌝ }
+{
+    match kind {
+        Kind::Blt => 16,
+        Kind::Vector => 13,
+    }
+}
+
+// How many words a command of this kind has.
+pub fn length_of(kind: Kind) -> usize
+    ensures { λ r. ⌜ (r ≡ commandLength kind) × (r ≤ ringLeast) ⌝ }
+{
+    1 + word_count(kind)
+}
+
+fn primitive_of(kind: Kind) -> Primitive
+    ensures { λ r. ⌜ r ≡ primitiveOf kind ⌝ }
+{
+    match kind {
+        Kind::Blt => Primitive::Blt,
+        Kind::Vector => Primitive::Vector,
+    }
+}
+
+// What the command draws: nothing, unless its last enable is set.
+pub fn drawn_by(header: u32) -> Drawn
+    ensures { λ r. ⌜ r ≡ drawnBy header ⌝ }
+{
+    let kind = kind_of(header);
+    let primitive = primitive_of(kind);
+    let last = word_count(kind) - 1;
+    let draws = fields::is_set(header, last as u32);
+    if draws {
+        return Drawn::Draws(primitive);
+    }
+    Drawn::Nothing
+}
+
+// ---- waiting for a command of so many words, with W or without
+
+// Whether W stands on a command that begins at ring word 0 or runs across the ring's end.
+fn bad_return(size: usize, read: usize, length: usize, w: bool) -> bool
+    requires { ⌜ (read < size) × (length ≤ size) × (size ≤ ringMost) ⌝ }
+    ensures { λ r. ⌜ r ≡ badReturn size read length w ⌝ }
+{
+    if w {
         if read == 0 {
             return true;
         }
-        let count = word_count(kind_of(header));
-        return size < read + (1 + count);
+        return size < read + length;
     }
     false
 }
 
 // The number that the header alone gives, or 0.
-pub fn header_refusal(size: usize, read: usize, header: u32) -> u32
-    requires { ⌜ (read < size) × (size ≤ ringMost) ⌝ }
-    ensures { λ r. ⌜ r ≡ headerRefusal size read header ⌝ }
+pub fn header_refusal(size: usize, read: usize, header: u32, length: usize) -> u32
+    requires { ⌜ (read < size) × (length ≤ size) × (size ≤ ringMost) ⌝ }
+    ensures { λ r. ⌜ r ≡ first (headerRules size read header length) ⌝ }
 {
     let bad = bad_header(header);
     if bad {
         return 21;
     }
-    let back = bad_return(size, read, header);
+    let back = bad_return(size, read, length, returns(header));
     if back {
         return 22;
     }
     0
 }
 
-// Whether all of the command waits and, with W, the words up to the ring's end too.
-pub fn is_whole(size: usize, read: usize, write: usize, header: u32) -> bool
-    requires { ⌜ (read < size) × (write < size) ⌝ }
-    ensures { λ r. ⌜ r ≡ whole size read write header ⌝ }
+// How many words must wait before the command is whole.
+pub fn whole_words(size: usize, read: usize, length: usize, w: bool) -> usize
+    requires { ⌜ read < size ⌝ }
+    ensures { λ r. ⌜ r ≡ wholeWords size read length w ⌝ }
 {
-    let there = ring::waiting_words(size, read, write);
-    let count = word_count(kind_of(header));
-    if 1 + count <= there {
-        let returns = fields::is_set(header, 31);
-        if returns {
-            return size - read <= there;
+    if w {
+        let rest = size - read;
+        if length < rest {
+            return rest;
         }
-        return true;
+        return length;
     }
-    false
-}
-
-// Whether the command draws: its last enable is set.
-pub fn is_drawing(header: u32) -> bool
-    ensures { λ r. ⌜ r ≡ set? header (length (wordRegisters (kindOf header)) - 1) ⌝ }
-{
-    let count = word_count(kind_of(header));
-    let last = (count - 1) as u32;
-    fields::is_set(header, last)
+    length
 }
 
 // Where the read pointer stands after the command.
-pub fn read_after(size: usize, read: usize, header: u32) -> usize
-    requires { ⌜ (read < size) × (ringLeast ≤ size) × (size ≤ ringMost) ⌝ }
-    ensures { λ r. ⌜ r ≡ readAfter size read header ⌝ }
+pub fn read_after(size: usize, read: usize, length: usize, w: bool) -> usize
+    requires { ⌜ (read < size) × (length ≤ size) × (size ≤ ringMost) ⌝ }
+    ensures { λ r. ⌜ r ≡ readAfter size read length w ⌝ }
 {
-    let returns = fields::is_set(header, 31);
-    if returns {
+    if w {
         return 0;
     }
-    let count = word_count(kind_of(header));
-    let next = read + (1 + count);
+    let next = read + length;
     if next < size {
         return next;
     }
     next - size
 }
 
+// ---- one look at the header
+
+// What stands at the read pointer: a command of which too few words wait, one that its header refuses, with the number, or
+// a whole one, with what it draws and where the read pointer stands after it.
+pub enum Seen {
+    Waits,
+    Refused(u32),
+    Whole { drawn: Drawn, next: usize },
+}
+
+// The header is the word at the read pointer, whether it waits or not.
+pub fn look(size: usize, read: usize, write: usize, header: u32) -> Seen
+    requires { ⌜ (read < size) × (write < size) × (ringLeast ≤ size) × (size ≤ ringMost) ⌝ }
+    ensures { λ r. ⌜ r ≡ look size read write header ⌝ }
+{
+    let there = ring::waiting_words(size, read, write);
+    let length = length_of(kind_of(header));
+    let w = returns(header);
+    let number = header_refusal(size, read, header, length);
+    if number == 0 {
+        let needed = whole_words(size, read, length, w);
+        if needed <= there {
+            return Seen::Whole {
+                drawn: drawn_by(header),
+                next: read_after(size, read, length, w),
+            };
+        }
+        return Seen::Waits;
+    }
+    if 1 <= there {
+        return Seen::Refused(number);
+    }
+    Seen::Waits
+}
+
+// ---- loading
+
 // The registers of a vector's words, in order.
-const VECTOR: [usize; 13] = [0, 1, 2, 3, 4, 5, 7, 8, 9, 10, 12, 14, 16];
+const VECTOR: [usize; 13] = [
+    model::RASTER_MODE,
+    model::DST_OFFSET,
+    model::VEC_ERR,
+    model::STRIDE,
+    model::VEC_LEN,
+    model::SRC_COLOR_FG,
+    model::PAT_COLOR_0,
+    model::PAT_COLOR_1,
+    model::PAT_DATA_0,
+    model::PAT_DATA_1,
+    model::CH3_MODE_STR,
+    model::BASE_OFFSET,
+    model::VECTOR_MODE,
+];
 
 // The register of word i after the header: a BLT's words are the registers in their own order.
 fn register_of(kind: Kind, i: usize) -> usize
     requires { ⌜ i < length (wordRegisters kind) ⌝ }
-    ensures { λ r. ⌜ (r ≡ getD (wordRegisters kind) i 0) × (r < 17) ⌝ }
+    ensures { λ r. ⌜ (r ≡ getD (wordRegisters kind) i 0) × (r < registerCount) ⌝ }
 {
     match kind {
         Kind::Blt => i,
@@ -135,7 +211,7 @@ fn register_of(kind: Kind, i: usize) -> usize
 }
 
 // The registers as they are after loading the command at the read pointer.
-pub fn load(registers: [u32; 17], ring: &[u32], read: usize, header: u32) -> [u32; 17]
+pub fn load(registers: [u32; REGISTERS], ring: &[u32], read: usize, header: u32) -> [u32; REGISTERS]
     requires { ⌜ (read < length (now ring)) × (ringLeast ≤ length (now ring)) ⌝ }
     ensures { λ r. ⌜ r ≡ loaded (now (ring .entry)) read header registers ⌝ }
 {

@@ -1,163 +1,134 @@
 -- Units along one run of words: as long as the write pointer stays on the run, each unit is the unit of the whole run, and
 -- could be done with the final pointer in.
-use Prim.Native.Nat.{ℕ, zero, suc, _+_, _-_, _%_, _≤_, _<_}
-use mathlib.Core.Path.{_≡_, refl, sym, ap, _∙_}
-use mathlib.Core.Bool.{Bool, true, false, not, _||_}
-use mathlib.Core.Logic.{_⊎_, inl, inr}
+use Prim.Native.Nat.{ℕ, suc, _+_, _-_, _%_, _≤_, _<_}
+use mathlib.Core.Path.{_≡_, refl, sym, ap, subst, _∙_}
+use mathlib.Core.Bool.{Bool, true, false}
 use mathlib.Core.List.{List, [], _∷_}
 use native.Mathlib.Omega.{arith}
-use native.Mathlib.Nat.{add-zero, mod-lt, mod-self}
+use native.Mathlib.Nat.{add-zero, mod-lt, mod-self, mod-eq-of-lt}
 use lib.ListN.{length}
-use borrow.Author.Tests.{leb-true, eqb-true, eqb-false}
-use Rattle.model.specs.Choice.{_≤?_, _=?_, if_then_else_, both, or-left, or-right}
+use borrow.Author.Tests.{ltb-false, eqb-true}
+use Rattle.model.specs.Choice.{_<?_, _=?_, if_then_else_, neither}
+use Rattle.model.specs.Refusals.{Rule, first}
 use Rattle.model.specs.Ring.{Agree, distance, waiting, wordAt, distance-lt, distance-leads, empty}
-use Rattle.model.specs.Command.{kindOf, wordRegisters, commandLength, returns, headerRefusal, whole, loadWords, loaded, readAfter}
-use Rattle.model.specs.Unit.{Machine, Done, headerAt, loadedAt, commandRefusal, ready, stopped, loadedCore, drawnCore, unit, drawing, possible, units}
-use Rattle.model.specs.Steps.{unit-loads, unit-refuses, unit-draws, possible-later}
+use Rattle.model.specs.Command.{kindOf, wordRegisters, drawnBy, badReturn, wholeWords, loadWords, loaded, readAfter}
+use Rattle.model.specs.Unit.{Machine, Done, headerAt, loadedAt, lengthAt, returnsAt, headerRefusal, drawnRules, commandRefusal, needed, ready, stopped, loadedCore, drawnCore, unit, done, possible, units}
+use Rattle.model.specs.Steps.{machine, Step, loads, refuses, draws, step-of, possible-later}
 use Rattle.model.specs.declared.Core.{Core}
-use Rattle.model.specs.declared.Kind.{Kind}
-use Rattle.model.specs.declared.Place.{Place}
-use Rattle.model.specs.declared.Place.the-variants.{Idle, Drawing}
 use Rattle.laws.specs.Modular.{distance-sum, distance-next}
-use Rattle.laws.specs.Units.{units-zero, units-stop, units-step}
-use Rattle.laws.specs.Fit.{accepted-header}
-use Rattle.demands.specs.Waits.{ready-header, ready-whole, idle-ready}
+use Rattle.laws.specs.Units.{unit-loads, unit-refuses, unit-draws, drawing-possible, idle-possible, possible-running, possible-ready, units-zero, units-step, units-each}
+use Rattle.laws.specs.Fit.{Fit, command-first, accepted-header, accepted-return, fit-unit}
+use Rattle.laws.specs.WellFormed.{unit-keeps}
+use Rattle.demands.specs.Waits.{good-header, Needs, its-header, all-words, needs-of, needs-some, whole-waits, ready-needs, ready-whole}
 
--- where an engine stands on the run of words from o to the final position f, with the write pointer at w
+-- where an engine stands on the run of words from o to the final position f, with the write pointer at w: a state that row 3 does
+-- not refuse
 pub record OnRun (n o f w : ℕ) (c : Core) : Type 0 where
   pub size-is : c .ringlength ≡ n
   pub origin-in : o < n
   pub final-in : f < n
-  pub read-in : c .read < n
-  pub write-in : w < n
   pub past : distance n o (c .read) ≤ distance n o w
   pub ahead : distance n o w ≤ distance n o f
+  pub fit : Fit c w
 
 -- ---- the same run seen from the read pointer
 
-module _ (n o f w : ℕ) (c : Core) (on : OnRun n o f w c) where
+module _ {n o f w : ℕ} {c : Core} (on : OnRun n o f w c) where
+  pub on-read : c .read < n
+  on-read = rw (on .size-is) at (on .fit .read-in)
+
+  pub on-write : w < n
+  on-write = rw (on .size-is) at (on .fit .write-in)
+
+  -- words waiting, as distances from the origin
+  waits-from : distance n o (c .read) + distance n (c .read) w ≡ distance n o w
+  waits-from = distance-sum n o (c .read) w (on .origin-in) on-read on-write (on .past)
+
+  -- no fewer wait with the final pointer in
+  pub waits-later : distance n (c .read) w ≤ distance n (c .read) f
+  waits-later =
+      omega (arith, waits-from, on .ahead, distance-sum n o (c .read) f (on .origin-in) on-read (on .final-in) (omega (arith, on .past, on .ahead)))
+
   -- the run that is left begins where the engine reads
   pub on-here : OnRun n (c .read) f w c
   unfolding waiting
-  on-here =
-      let a = distance-sum n o (c .read) w (on .origin-in) (on .read-in) (on .write-in) (on .past) in
-      let b = distance-sum n o (c .read) f (on .origin-in) (on .read-in) (on .final-in) (omega (arith, on .past, on .ahead)) in
-      record {
-        size-is = on .size-is;
-        origin-in = on .read-in;
-        final-in = on .final-in;
-        read-in = on .read-in;
-        write-in = on .write-in;
-        past = omega (arith, empty n (c .read));
-        ahead = omega (arith, on .ahead);
-      }
+  on-here = record {
+    size-is = on .size-is;
+    origin-in = on-read;
+    final-in = on .final-in;
+    past = omega (arith, empty n (c .read));
+    ahead = waits-later;
+    fit = on .fit;
+  }
 
   -- and an engine further on in it is further on in the whole run
   pub on-back : (d : Core) → OnRun n (c .read) f w d → OnRun n o f w d
   on-back d further =
-      let a = distance-sum n o (c .read) w (on .origin-in) (on .read-in) (on .write-in) (on .past) in
       let l = distance-lt n o w (on .origin-in) in
-      let t = distance-next n o (c .read) (distance n (c .read) (d .read)) (on .origin-in) (on .read-in) (omega (arith, further .past)) in
-      let e = rw (distance-leads n (c .read) (d .read) (on .read-in) (further .read-in)) at t in
+      let t = distance-next n o (c .read) (distance n (c .read) (d .read)) (on .origin-in) on-read (omega (arith, waits-from, further .past)) in
+      let r : d .read < n = rw (further .size-is) at (further .fit .read-in) in
+      let e = rw (distance-leads n (c .read) (d .read) on-read r) at t in
       record {
         size-is = further .size-is;
         origin-in = on .origin-in;
         final-in = on .final-in;
-        read-in = further .read-in;
-        write-in = on .write-in;
-        past = omega (arith, further .past);
+        past = omega (arith, waits-from, further .past);
         ahead = on .ahead;
+        fit = further .fit;
       }
-
--- ---- what a ready command waits for
-
--- its own words, or with W those to the ring's end: as many as the read pointer passes
-abbrev pub Passed : ℕ → ℕ → ℕ → ℕ → Type 0
-Passed n read header k =
-    ((returns header ≡ false) × (k ≡ commandLength (kindOf header))) ⊎ ((returns header ≡ true) × (k ≡ n - read))
-
-pub advance : (n read w header : ℕ) → read < n → whole n read w header ≡ true
-    → (k : ℕ) × (k ≤ waiting n read w) × (readAfter n read header ≡ (read + k) % n) × Passed n read header k
-unfolding whole readAfter
-advance n read w header h e = go (returns header) refl (both (commandLength (kindOf header) ≤? waiting n read w) _ e)
-  where
-    go : (b : Bool) → returns header ≡ b
-        → (commandLength (kindOf header) ≤? waiting n read w ≡ true)
-        × (not (returns header) || n - read ≤? waiting n read w ≡ true)
-        → (k : ℕ) × (k ≤ waiting n read w) × ((if b then 0 else (read + commandLength (kindOf header)) % n) ≡ (read + k) % n)
-        × Passed n read header k
-    go false p q = (commandLength (kindOf header), leb-true _ _ (q .0), refl, inl (p, refl))
-    go true p q =
-        let t : n - read ≤? waiting n read w ≡ true = rw p at (q .1) in
-        let s : read + (n - read) ≡ n = omega arith in
-        (n - read, leb-true _ _ t, rw s (sym (mod-self n)), inr (p, refl))
-
-pub whole-words : (n read w header : ℕ) → whole n read w header ≡ true → commandLength (kindOf header) ≤ waiting n read w
-unfolding whole
-whole-words n read w header e = leb-true _ _ (both (commandLength (kindOf header) ≤? waiting n read w) _ e .0)
 
 -- ---- a unit stays on the run
 
-module _ (n o f w : ℕ) (ring : List ℕ) where
-  loaded-on : (c : Core) → OnRun n o f w c → whole (c .ringlength) (c .read) w (headerAt ring c) ≡ true
-      → OnRun n o f w (loadedCore ring c)
-  unfolding loadedCore waiting
-  loaded-on c on e =
-      let z = on .size-is in
-      let a = advance n (c .read) w (headerAt ring c) (on .read-in) (rw z at e) in
-      let s = distance-sum n o (c .read) w (on .origin-in) (on .read-in) (on .write-in) (on .past) in
-      let l = distance-lt n o w (on .origin-in) in
-      let t = distance-next n o (c .read) (a .0) (on .origin-in) (on .read-in) (omega (arith, a .1)) in
-      record {
-        size-is = z;
-        origin-in = on .origin-in;
-        final-in = on .final-in;
-        read-in = rw (z, a .2) (mod-lt _ (let h = on .read-in in omega arith));
-        write-in = on .write-in;
-        past = rw (z, a .2, t) (omega (arith, a .1));
-        ahead = on .ahead;
-      }
+-- as many words as the read pointer passes
+pub advance : (n read length : ℕ) (w : Bool) → read < n → badReturn n read length w ≡ false
+    → readAfter n read length w ≡ (read + wholeWords n read length w) % n
+unfolding badReturn wholeWords readAfter
+advance n read length false h e = refl
+advance n read length true h e = go (length <? n - read) refl (ltb-false n (read + length) (neither (read =? 0) _ e .1))
+  where
+    go : (b : Bool) → length <? n - read ≡ b → read + length ≤ n → 0 ≡ (read + (if b then n - read else length)) % n
+    go true t l = let s : read + (n - read) ≡ n = omega arith in rw s (sym (mod-self n))
+    go false t l = let s : read + length ≡ n = omega (arith, ltb-false length (n - read) t) in rw s (sym (mod-self n))
 
-  stopped-on : (c : Core) (number : ℕ) → OnRun n o f w c → OnRun n o f w (stopped c number)
-  unfolding stopped
-  stopped-on c number on = record {
-    size-is = on .size-is;
-    origin-in = on .origin-in;
-    final-in = on .final-in;
-    read-in = on .read-in;
-    write-in = on .write-in;
-    past = on .past;
-    ahead = on .ahead;
-  }
+-- a unit takes the read pointer past words that wait, if it takes it anywhere
+unit-moves : (ring : List ℕ) (m : Machine) (w : ℕ) → Fit (m .core) w → possible ring (m .core) w ≡ true
+    → (k : ℕ) × (k ≤ waiting (m .core .ringlength) (m .core .read) w) × (unit ring m .core .read ≡ (m .core .read + k) % m .core .ringlength)
+unfolding loadedCore stopped drawnCore
+unit-moves ring m w fit e = go (step-of ring m)
+  where
+    c : Core
+    c = m .core
 
-  drawn-on : (c : Core) (kind : Kind) (k : ℕ) → OnRun n o f w c → OnRun n o f w (drawnCore c kind k)
-  unfolding drawnCore
-  drawn-on c kind k on = record {
-    size-is = on .size-is;
-    origin-in = on .origin-in;
-    final-in = on .final-in;
-    read-in = on .read-in;
-    write-in = on .write-in;
-    past = on .past;
-    ahead = on .ahead;
-  }
+    stays : c .read ≡ (c .read + 0) % c .ringlength
+    stays = rw add-zero (sym (mod-eq-of-lt (fit .read-in)))
 
-  pub unit-on : (m : Machine) → OnRun n o f w (m .core) → possible ring (m .core) w ≡ true → OnRun n o f w (unit ring m .core)
-  unit-on m on e = go (m .core .place) refl
-    where
-      c : Core
-      c = m .core
+    go : Step ring m → (k : ℕ) × (k ≤ waiting (c .ringlength) (c .read) w) × (unit ring m .core .read ≡ (c .read + k) % c .ringlength)
+    go (loads p z u) =
+        let good = good-header ring c .0 (accepted-header ring c z) in (
+          _,
+          whole-waits ring c w .0 (ready-whole ring c w (possible-ready ring c w p e) good),
+          rw u (advance (c .ringlength) (c .read) (lengthAt ring c) (returnsAt ring c) (fit .read-in) (accepted-return ring c z)),
+        )
+    go (refuses p z u) = (0, omega arith, rw u stays)
+    go (draws primitive k p u) = (0, omega arith, rw u stays)
 
-      idle : (b : Bool) → commandRefusal ring c =? 0 ≡ b → c .place ≡ Idle → OnRun n o f w (unit ring m .core)
-      idle true h p =
-          let a = eqb-true _ _ h in
-          rw (unit-loads ring m p a)
-          (loaded-on c on (ready-whole ring c w (idle-ready ring c w p e) (accepted-header ring c a)))
-      idle false h p = rw (unit-refuses ring m p (eqb-false _ _ h)) (stopped-on c (commandRefusal ring c) on)
-
-      go : (q : Place) → c .place ≡ q → OnRun n o f w (unit ring m .core)
-      go Idle p = idle (commandRefusal ring c =? 0) refl p
-      go (Drawing kind k) p = rw (unit-draws ring m kind k p) (drawn-on c kind (k + 1) on)
+pub unit-on : (n o f w : ℕ) (ring : List ℕ) (m : Machine) → OnRun n o f w (m .core) → possible ring (m .core) w ≡ true
+    → OnRun n o f w (unit ring m .core)
+unfolding waiting
+unit-on n o f w ring m on e =
+    let x = unit-moves ring m w (on .fit) e in
+    let moved = subst (λ (q : ℕ). x .0 ≤ distance q (m .core .read) w) (on .size-is) (x .1) in
+    let next = subst (λ (q : ℕ). unit ring m .core .read ≡ (m .core .read + x .0) % q) (on .size-is) (x .2) in
+    let s = waits-from on in
+    let l = distance-lt n o w (on .origin-in) in
+    record {
+      size-is = unit-keeps ring m .ringlength-kept ∙ on .size-is;
+      origin-in = on .origin-in;
+      final-in = on .final-in;
+      past = rw (next, distance-next n o (m .core .read) (x .0) (on .origin-in) (on-read on) (omega arith)) (omega arith);
+      ahead = on .ahead;
+      fit = fit-unit ring m w (on .fit) e;
+    }
 
 -- ---- a ring with the same published words gives the same unit
 
@@ -177,105 +148,85 @@ words-same ring all read header (r ∷ rest) i registers h =
     rw e (h (suc j) (omega arith))))
 
 module _ (n o f w : ℕ) (ring all : List ℕ) (ring-is : length ring ≡ n) (all-is : length all ≡ n) (agree : Agree ring all n o w) where
-  -- word k from the read pointer, where more than k wait
-  word-same : (c : Core) (k : ℕ) → OnRun n o f w c → k < waiting n (c .read) w
-      → wordAt ring (c .read) k ≡ wordAt all (c .read) k
-  unfolding wordAt waiting
-  word-same c k on h =
-      let s = distance-sum n o (c .read) w (on .origin-in) (on .read-in) (on .write-in) (on .past) in
-      let l = distance-lt n o w (on .origin-in) in
-      let t = distance-next n o (c .read) k (on .origin-in) (on .read-in) (omega arith) in
-      rw (ring-is, all-is) (agree ((c .read + k) % n) (mod-lt _ (let h = on .read-in in omega arith)) (rw t (omega arith)))
+  module _ (c : Core) (on : OnRun n o f w c) (now : ready ring c w ≡ true) where
+    waits : needed ring c ≤ waiting n (c .read) w
+    waits = subst (λ (q : ℕ). needed ring c ≤ waiting q (c .read) w) (on .size-is) (ready-needs ring c w now)
 
-  header-same : (c : Core) → OnRun n o f w c → 0 < waiting n (c .read) w → headerAt ring c ≡ headerAt all c
-  unfolding waiting
-  header-same c on h =
-      let s = distance-sum n o (c .read) w (on .origin-in) (on .read-in) (on .write-in) (on .past) in
-      agree (c .read) (on .read-in) (omega arith)
+    -- word k from the read pointer, where more than k wait
+    word-same : (k : ℕ) → k < waiting n (c .read) w → wordAt ring (c .read) k ≡ wordAt all (c .read) k
+    unfolding wordAt waiting
+    word-same k h =
+        let s = waits-from on in
+        let l = distance-lt n o w (on .origin-in) in
+        let t = distance-next n o (c .read) k (on .origin-in) (on-read on) (omega arith) in
+        rw (ring-is, all-is) (agree ((c .read + k) % n) (mod-lt _ (omega (arith, on-read on))) (rw t (omega arith)))
 
-  loaded-same : (c : Core) → OnRun n o f w c → headerAt ring c ≡ headerAt all c
-      → commandLength (kindOf (headerAt all c)) ≤ waiting n (c .read) w → loadedAt ring c ≡ loadedAt all c
-  unfolding loaded
-  loaded-same c on p h =
-      rw p
-      (words-same ring all (c .read) (headerAt all c) (wordRegisters (kindOf (headerAt all c))) 0 (c .registers)
-      (λ j l. word-same c (0 + j + 1) on (omega arith)))
+    header-same : headerAt ring c ≡ headerAt all c
+    unfolding waiting
+    header-same = agree (c .read) (on-read on) (omega (arith, waits, needs-some ring c, waits-from on))
 
-  -- a ready command is the same command: its number, and what it loads
-  refusal-same : (c : Core) → OnRun n o f w c → ready ring c w ≡ true → commandRefusal ring c ≡ commandRefusal all c
-  unfolding commandRefusal
-  refusal-same c on e =
-      let p = header-same c on (rw (on .size-is) at (ready-header ring c w e)) in
-      go p (headerRefusal (c .ringlength) (c .read) (headerAt all c) =? 0) refl
-    where
-      go : headerAt ring c ≡ headerAt all c → (b : Bool) → headerRefusal (c .ringlength) (c .read) (headerAt all c) =? 0 ≡ b
-          → commandRefusal ring c ≡ commandRefusal all c
-      go p false h = rw (p, h)
-      go p true h =
-          let z : headerRefusal (c .ringlength) (c .read) (headerAt ring c) ≡ 0 = rw p (eqb-true _ _ h) in
-          let t = whole-words _ _ _ _ (ready-whole ring c w e z) in
-          rw (loaded-same c on p (rw (on .size-is, p) at t), p)
+    abbrev rulesAt : List ℕ → List Rule
+    rulesAt words = drawnRules (drawnBy (headerAt words c)) (loadedAt words c) (c .framelength)
 
-  core-same : (c : Core) → OnRun n o f w c → ready ring c w ≡ true → commandRefusal ring c ≡ 0
-      → loadedCore ring c ≡ loadedCore all c
-  unfolding loadedCore
-  core-same c on e z =
-      let p = header-same c on (rw (on .size-is) at (ready-header ring c w e)) in
-      let t = whole-words _ _ _ _ (ready-whole ring c w e (accepted-header ring c z)) in
-      rw (loaded-same c on p (rw (on .size-is, p) at t), p)
+    number-same : headerRefusal ring c ≡ headerRefusal all c
+    unfolding headerRefusal
+    number-same = rw header-same
 
-  ready-same : (c : Core) → OnRun n o f w c → ready ring c w ≡ true → ready all c w ≡ true
-  unfolding ready
-  ready-same c on e =
-      let p = header-same c on (rw (on .size-is) at (ready-header ring c w e)) in
-      rw p at e
+    ready-same : ready all c w ≡ true
+    unfolding ready needed headerRefusal
+    ready-same = rw header-same at now
+
+    -- where the header refuses nothing, all its words wait
+    loaded-same : headerRefusal ring c ≡ 0 → loadedAt ring c ≡ loadedAt all c
+    unfolding loaded
+    loaded-same z = go (needs-of ring c)
+      where
+        go : Needs ring c → loadedAt ring c ≡ loadedAt all c
+        go (its-header b e) = absurd (b (good-header ring c .0 z))
+        go (all-words g e l) =
+            rw header-same
+            (words-same ring all (c .read) (headerAt all c) (wordRegisters (kindOf (headerAt all c))) 0 (c .registers)
+            (λ j h. word-same (0 + j + 1) (let i : lengthAt all c ≤ needed ring c = rw header-same at l in omega (arith, waits))))
+
+    refusal-same : commandRefusal ring c ≡ commandRefusal all c
+    refusal-same = command-first ring c ∙ go (headerRefusal all c =? 0) refl number-same ∙ sym (command-first all c)
+      where
+        go : (b : Bool) → headerRefusal all c =? 0 ≡ b → headerRefusal ring c ≡ headerRefusal all c
+            → (if headerRefusal ring c =? 0 then first (rulesAt ring) else headerRefusal ring c)
+            ≡ (if headerRefusal all c =? 0 then first (rulesAt all) else headerRefusal all c)
+        go false e p = rw (p, e)
+        go true e p = rw (p, e, loaded-same (p ∙ eqb-true _ _ e), header-same)
+
+    core-same : commandRefusal ring c ≡ 0 → loadedCore ring c ≡ loadedCore all c
+    unfolding loadedCore
+    core-same z = rw (loaded-same (accepted-header ring c z), header-same)
 
   pub unit-same : (m : Machine) → OnRun n o f w (m .core) → possible ring (m .core) w ≡ true
       → (possible all (m .core) w ≡ true) × (unit ring m ≡ unit all m)
-  unfolding possible
-  unit-same m on e = go (m .core .place) refl
+  unit-same m on e = go (step-of ring m)
     where
       c : Core
       c = m .core
 
-      halves : (c .stop =? 0 ≡ true) × (drawing (c .place) || ready ring c w ≡ true)
-      halves = both (c .stop =? 0) _ e
+      z : c .stop ≡ 0
+      z = possible-running ring c w e
 
-      idle : (b : Bool) → commandRefusal ring c =? 0 ≡ b → c .place ≡ Idle
-          → (possible all c w ≡ true) × (unit ring m ≡ unit all m)
-      idle b h p =
-          let r = idle-ready ring c w p e in
-          let same = refusal-same c on r in
-          (rw (halves .0) (or-right (drawing (c .place)) _ (ready-same c on r)), by-number b h r same)
-        where
-          by-number : (b : Bool) → commandRefusal ring c =? 0 ≡ b → ready ring c w ≡ true
-              → commandRefusal ring c ≡ commandRefusal all c → unit ring m ≡ unit all m
-          by-number true h r same =
-              let z = eqb-true _ _ h in
-              unit-loads ring m p z
-              ∙ ap (λ (d : Core). record { core = d; frame = m .frame }) (core-same c on r z)
-              ∙ sym (unit-loads all m p (sym same ∙ z))
-          by-number false h r same =
-              let z = eqb-false _ _ h in
-              unit-refuses ring m p z
-              ∙ ap (λ (k : ℕ). record { core = stopped c k; frame = m .frame }) same
-              ∙ sym (unit-refuses all m p (λ q. z (same ∙ q)))
+      go : Step ring m → (possible all c w ≡ true) × (unit ring m ≡ unit all m)
+      go (loads p h u) =
+          let r = possible-ready ring c w p e in (
+            idle-possible all c w z p ∙ ready-same c on r,
+            u ∙ ap (λ (d : Core). machine d (m .frame)) (core-same c on r h) ∙ sym (unit-loads all m p (sym (refusal-same c on r) ∙ h)),
+          )
+      go (refuses p h u) =
+          let r = possible-ready ring c w p e in
+          let same = refusal-same c on r in (
+            idle-possible all c w z p ∙ ready-same c on r,
+            u ∙ ap (λ (k : ℕ). machine (stopped c k) (m .frame)) same ∙ sym (unit-refuses all m p (λ q. h (same ∙ q))),
+          )
+      go (draws primitive k p u) = (drawing-possible all c w primitive k z p, u ∙ sym (unit-draws all m primitive k p))
 
-      go : (q : Place) → c .place ≡ q → (possible all c w ≡ true) × (unit ring m ≡ unit all m)
-      go Idle p = idle (commandRefusal ring c =? 0) refl p
-      go (Drawing kind k) p =
-          (rw (halves .0) (or-left (drawing (c .place)) _ (ap drawing p)), unit-draws ring m kind k p ∙ sym (unit-draws all m kind k p))
+  -- ---- a run with the write pointer at w is as many units with the final pointer in
 
--- ---- a run with the write pointer at w is as many units with the final pointer in
-
-later : (n o f w : ℕ) (c : Core) → OnRun n o f w c → waiting (c .ringlength) (c .read) w ≤ waiting (c .ringlength) (c .read) f
-unfolding waiting
-later n o f w c on =
-    let a = distance-sum n o (c .read) w (on .origin-in) (on .read-in) (on .write-in) (on .past) in
-    let b = distance-sum n o (c .read) f (on .origin-in) (on .read-in) (on .final-in) (omega (arith, on .past, on .ahead)) in
-    rw (on .size-is) (omega (arith, on .ahead))
-
-module _ (n o f w : ℕ) (ring all : List ℕ) (ring-is : length ring ≡ n) (all-is : length all ≡ n) (agree : Agree ring all n o w) where
   pub record Taken (used : ℕ) (m : Machine) (d : Done) : Type 0 where
     pub count : ℕ
     pub used-is : d .used ≡ used + count
@@ -283,26 +234,24 @@ module _ (n o f w : ℕ) (ring all : List ℕ) (ring-is : length ring ≡ n) (al
     pub stays : OnRun n o f w (d .machine .core)
 
   pub units-taken : (k used : ℕ) (m : Machine) → OnRun n o f w (m .core) → Taken used m (units ring w k used m)
-  units-taken zero used m on =
-      rw (units-zero ring w used m)
-      (record { count = 0; used-is = rw add-zero; same = units-zero all f used m; stays = on })
-  units-taken (suc k) used m on =
-      go (possible ring (m .core) w) refl (λ e. units-taken k (used + 1) (unit ring m) (unit-on n o f w ring m on e))
+  units-taken =
+      units-each ring w (λ k used m d. OnRun n o f w (m .core) → Taken used m d)
+      none (λ k used m e. none used m)
+      (λ k used m d e i on.
+      let t = i (unit-on n o f w ring m on e) in
+      let s = unit-same m on e in
+      let p = possible-later all (m .core) w f (waits-more m on) (s .0) in
+      record {
+        count = suc (t .count);
+        used-is = t .used-is ∙ omega arith;
+        same = units-step all f (t .count) used m p ∙ ap (units all f (t .count) (used + 1)) (sym (s .1)) ∙ t .same;
+        stays = t .stays;
+      })
     where
-      go : (b : Bool) → possible ring (m .core) w ≡ b
-          → (possible ring (m .core) w ≡ true → Taken (used + 1) (unit ring m) (units ring w k (used + 1) (unit ring m)))
-          → Taken used m (units ring w (suc k) used m)
-      go true e i =
-          let t = i e in
-          let s = unit-same n o f w ring all ring-is all-is agree m on e in
-          let p = possible-later all (m .core) w f (later n o f w (m .core) on) (s .0) in
-          rw (units-step ring w k used m e)
-          (record {
-            count = suc (t .count);
-            used-is = t .used-is ∙ omega arith;
-            same = units-step all f (t .count) used m p ∙ ap (units all f (t .count) (used + 1)) (sym (s .1)) ∙ t .same;
-            stays = t .stays;
-          })
-      go false e i =
-          rw (units-stop ring w (suc k) used m e)
-          (record { count = 0; used-is = rw add-zero; same = units-zero all f used m; stays = on })
+      none : (used : ℕ) (m : Machine) → OnRun n o f w (m .core) → Taken used m (done m used)
+      none used m on = record { count = 0; used-is = sym (add-zero used); same = units-zero all f used m; stays = on }
+
+      waits-more : (m : Machine) → OnRun n o f w (m .core)
+          → waiting (m .core .ringlength) (m .core .read) w ≤ waiting (m .core .ringlength) (m .core .read) f
+      waits-more m on =
+          subst (λ (q : ℕ). waiting q (m .core .read) w ≤ waiting q (m .core .read) f) (sym (on .size-is)) (unfold waiting in waits-later on)

@@ -5,16 +5,15 @@ use mathlib.Core.Bool.{Bool, true, false}
 use mathlib.Core.List.{List}
 use native.Mathlib.Omega.{arith}
 use native.Mathlib.Nat.{add-zero}
-use borrow.Author.Tests.{eqb-true, eqb-false}
-use Rattle.model.specs.Choice.{_≤?_, _=?_, if_then_else_}
+use Rattle.model.specs.Choice.{_≤?_, if_then_else_, not-both}
 use Rattle.model.specs.Completion.{retired}
-use Rattle.model.specs.Unit.{Machine, Done, commandRefusal, pixelCount, drawPixel, drawnCore, unit, possible, units, done, times}
-use Rattle.model.specs.Steps.{unit-loads, unit-refuses, unit-draws}
+use Rattle.model.specs.Unit.{Machine, Done, pixelCount, drawPixel, drawnCore, unit, drawing, possible, units, done, times}
+use Rattle.model.specs.Steps.{Step, loads, refuses, draws, step-of}
 use Rattle.model.specs.Calls.{runRefusal, runUnits, run, runFrame, ranAnswer, unitsOf, stateAfter, machineOf}
 use Rattle.model.specs.declared.State.{State}
-use Rattle.model.specs.declared.Kind.{Kind}
-use Rattle.model.specs.declared.Place.the-variants.{Idle, Drawing}
-use Rattle.laws.specs.Units.{units-zero, units-stop, units-step, units-add, units-shift}
+use Rattle.model.specs.declared.Primitive.{Primitive}
+use Rattle.model.specs.declared.Place.the-variants.{Drawing}
+use Rattle.laws.specs.Units.{unit-draws, units-zero, units-stop, units-step, units-add, units-shift}
 
 -- ---- the statement
 
@@ -52,18 +51,18 @@ BudgetsAdd =
 -- the unit that loads a command, or refuses it, changes no byte of frame memory. Ruled out: an engine that paints a whole
 -- command at its load.
 abbrev pub LoadPaintsNothing : Type 0
-LoadPaintsNothing = (ring : List ℕ) (m : Machine) → m .core .place ≡ Idle → unit ring m .frame ≡ m .frame
+LoadPaintsNothing = (ring : List ℕ) (m : Machine) → drawing (m .core .place) ≡ false → unit ring m .frame ≡ m .frame
 
 -- the unit of pixel k paints that pixel and no other, and moves no register and no pointer; the last one retires the command.
 -- Ruled out: an engine that paints nothing; one that retires a command early.
 abbrev pub PixelPaints : Type 0
 PixelPaints =
-    (ring : List ℕ) (m : Machine) (kind : Kind) (k : ℕ) → m .core .place ≡ Drawing kind k
-    → (unit ring m .frame ≡ drawPixel kind (m .core .registers) k (m .frame))
+    (ring : List ℕ) (m : Machine) (primitive : Primitive) (k : ℕ) → m .core .place ≡ Drawing primitive k
+    → (unit ring m .frame ≡ drawPixel primitive (m .core .registers) k (m .frame))
     × (unit ring m .core .registers ≡ m .core .registers)
     × (unit ring m .core .read ≡ m .core .read)
     × (unit ring m .core .completion
-    ≡ (if pixelCount kind (m .core .registers) ≤? k + 1 then retired (m .core .completion) else m .core .completion))
+    ≡ (if pixelCount primitive (m .core .registers) ≤? k + 1 then retired (m .core .completion) else m .core .completion))
 
 pub record Demand2 : Type 0 where
   pub run-counted : RunCounted
@@ -119,15 +118,16 @@ budgets-add ring w a b m =
     ∙ units-shift ring w b (first .used) 0 (first .machine)
 
 load-paints-nothing : LoadPaintsNothing
-load-paints-nothing ring m p = go (commandRefusal ring (m .core) =? 0) refl
+load-paints-nothing ring m p = go (step-of ring m)
   where
-    go : (b : Bool) → commandRefusal ring (m .core) =? 0 ≡ b → unit ring m .frame ≡ m .frame
-    go true e = ap (λ (n : Machine). n .frame) (unit-loads ring m p (eqb-true _ _ e))
-    go false e = ap (λ (n : Machine). n .frame) (unit-refuses ring m p (eqb-false _ _ e))
+    go : Step ring m → unit ring m .frame ≡ m .frame
+    go (loads q e u) = rw u
+    go (refuses q n u) = rw u
+    go (draws primitive k q u) = absurd (not-both _ (ap drawing q) p)
 
 pixel-paints : PixelPaints
 unfolding drawnCore
-pixel-paints ring m kind k p = rw (unit-draws ring m kind k p) (refl, refl, refl, refl)
+pixel-paints ring m primitive k p = rw (unit-draws ring m primitive k p) (refl, refl, refl, refl)
 
 pub demand2 : Demand2
 demand2 = record {

@@ -2,25 +2,23 @@
 -- that of publishing all at once. One theorem about every list of calls.
 use Prim.Native.Nat.{ℕ, _+_, _-_, _≤_, _<_}
 use mathlib.Core.Path.{_≡_, refl, sym, ap, subst, _∙_}
-use mathlib.Core.Bool.{Bool, true, false, not, _&&_}
+use mathlib.Core.Bool.{Bool, true, false}
 use mathlib.Core.List.{List, [], _∷_, map}
 use native.Mathlib.Omega.{arith}
 use lib.ListN.{length}
 use lib.Dec.{leb}
-use borrow.Author.Tests.{leb-true, leb-false, eqb-true}
-use Rattle.model.specs.Choice.{_<?_, _≤?_, _=?_, if_then_else_, both}
+use borrow.Author.Tests.{leb-true, leb-false}
 use Rattle.model.specs.Ring.{Agree, distance, waiting, empty}
 use Rattle.model.specs.Unit.{Machine, Done, done, possible, units}
-use Rattle.model.specs.Calls.{unfit, publish, run, restart, withWrite, machineOf}
-use Rattle.model.specs.Course.{Call, publishing, running, asking, restarting, Lent, Configuration, courseUnits, courseCall, course}
+use Rattle.model.specs.Calls.{publish, run, restart, withWrite, machineOf}
+use Rattle.model.specs.Course.{Call, publishing, running, asking, restarting, Lent, Configuration, course}
 use Rattle.model.specs.Perform.{perform, performs, lent, runs, total, start, Accepted, Fixed, Rests}
-use Rattle.model.specs.declared.Core.{Core}
 use Rattle.model.specs.declared.State.{State}
 use Rattle.laws.specs.Units.{units-zero, units-stop, units-add}
-use Rattle.laws.specs.Fit.{Fit, fit-parts, parts-fit}
+use Rattle.laws.specs.Fit.{fit-parts, parts-fit, fit-later}
 use Rattle.laws.specs.WellFormed.{WellFormed, wellformed-units}
-use Rattle.demands.specs.Courses.{configuration, course-units, perform-course, performs-course}
-use Rattle.demands.specs.Runs.{Published, published, course-publishes, course-runs, rests-impossible, impossible-rests, runs-total}
+use Rattle.demands.specs.Courses.{configuration, machineIn, performs-course, Did, did}
+use Rattle.demands.specs.Runs.{rests-impossible, impossible-rests, runs-total}
 use Rattle.demands.specs.Arrival.{OnRun, on-here, on-back, units-taken}
 use Rattle.demands.specs.Progress.{enoughRuns, progress}
 
@@ -77,7 +75,7 @@ pub record Arrived (ring : List ℕ) (s : State) (frame : List ℕ) (final : ℕ
   -- answers waiting while a whole command waits.
   pub same-end : y .state .write ≡ final → Rests ring y
       → (budgets : List ℕ) → Rests ring (atOnce ring s frame final budgets) → atOnce ring s frame final budgets ≡ y
-  -- "in as many runs as that takes": by progress four with the largest budget always get there
+  -- "in as many runs as that takes": by progress so many with the largest budget always get there
   pub at-once-rests : Rests ring (atOnce ring s frame final enoughRuns)
   -- and the engine need not wait or have stopped: once the final pointer is in, as many runs more come to the same. Ruled
   -- out: an engine that, once it was woken for half a command, never takes that command up.
@@ -111,145 +109,92 @@ Demand3Fed =
 
 module _ (all : List ℕ) (s : State) (frame : List ℕ) (final : ℕ) where
   -- after a prefix of the calls: on the run, and as many units as with the final pointer in
-  record So (y : Configuration) : Type 0 where
+  record Reached (y : Configuration) : Type 0 where
     on : OnRun (s .core .ringlength) (s .core .read) final (y .state .write) (y .state .core)
-    plain : units all final (y .sum) 0 (machineOf s frame) ≡ done (machineOf (y .state) (y .frame)) (y .sum)
+    plain : units all final (y .sum) 0 (machineOf s frame) ≡ done (machineIn y) (y .sum)
 
-  so-publish : (y : Configuration) (p : ℕ) → So y → Allowed s final (publishing p) y → So (courseCall [] (publishing p) y)
-  unfolding courseCall
-  so-publish y p h allowed = go test refl
-    where
-      c : Core
-      c = y .state .core
+  module _ (all-is : length all ≡ s .core .ringlength) where
+    call-reached : (ring : List ℕ) (y : Configuration) {call : Call} {z : Configuration} → Did ring y call z → Reached y
+        → Allowed s final call y → Words all s ring call y → Reached z
+    call-reached ring y (Did.refuses n) h allowed words = h
+    call-reached ring y Did.asks h allowed words = h
+    call-reached ring y (Did.publishes {p} a l r) h allowed words = record {
+      on = record {
+        size-is = h .on .size-is;
+        origin-in = h .on .origin-in;
+        final-in = h .on .final-in;
+        past = omega (arith, h .on .past, allowed a .0);
+        ahead = allowed a .1;
+        fit = fit-later (y .state .core) (y .state .write) p l r (h .on .fit);
+      };
+      plain = h .plain;
+    }
+    call-reached ring y (Did.runs {budget} a f) h allowed words =
+        let n = s .core .ringlength in
+        let t = units-taken n (y .state .core .read) final (y .state .write) ring all (f .ring-is ∙ h .on .size-is) all-is (words a)
+        budget (y .sum) (machineIn y) (on-here (h .on)) in
+        record {
+          on = on-back (h .on) _ (t .stays);
+          plain =
+              ap (λ (k : ℕ). units all final k 0 (machineOf s frame)) (t .used-is)
+              ∙ units-add all final (y .sum) (t .count) 0 (machineOf s frame)
+              ∙ ap (λ (x : Done). units all final (t .count) (x .used) (x .machine)) (h .plain)
+              ∙ t .same;
+        }
+    call-reached ring y (Did.restarts a n) h allowed words = absurd (allowed a)
 
-      test : Bool
-      test = not (unfit (y .state)) && p <? c .ringlength && waiting (c .ringlength) (c .read) (y .state .write) ≤? distance (c .ringlength) (c .read) p
-
-      go : (b : Bool) → test ≡ b → So (if b then record { state = withWrite (y .state) p; frame = y .frame; sum = y .sum } else y)
-      go false e = h
-      go true e =
-          let a = course-publishes (y .state) p e in
-          let l = allowed a in
-          record {
-            on = record {
-              size-is = h .on .size-is;
-              origin-in = h .on .origin-in;
-              final-in = h .on .final-in;
-              read-in = h .on .read-in;
-              write-in = rw (h .on .size-is) at (published (y .state) p a .position-in);
-              past = omega (arith, h .on .past, l .0);
-              ahead = l .1;
-            };
-            plain = h .plain;
-          }
-
-  so-run : (y : Configuration) (ring : List ℕ) (budget : ℕ) → length all ≡ s .core .ringlength → So y
-      → Words all s ring (running budget) y → So (courseCall ring (running budget) y)
-  unfolding courseCall
-  so-run y ring budget all-is h words = go test refl
-    where
-      c : Core
-      c = y .state .core
-
-      w : ℕ
-      w = y .state .write
-
-      test : Bool
-      test = not (unfit (y .state)) && (length ring =? c .ringlength) && (length (y .frame) =? c .framelength)
-
-      go : (b : Bool) → test ≡ b → So (if b then courseUnits ring budget y else y)
-      go false e = h
-      go true e =
-          let two = both (not (unfit (y .state)) && (length ring =? c .ringlength)) _ e in
-          let ring-is = eqb-true _ _ (both (not (unfit (y .state))) _ (two .0) .1) ∙ h .on .size-is in
-          let m = machineOf (y .state) (y .frame) in
-          let here = on-here (s .core .ringlength) (s .core .read) final w c (h .on) in
-          let agree = words (course-runs ring y budget e) in
-          let t = units-taken (s .core .ringlength) (c .read) final w ring all ring-is all-is agree budget (y .sum) m here in
-          let d = units ring w budget (y .sum) m in
-          rw (course-units ring budget y)
-          (record {
-            on = on-back (s .core .ringlength) (s .core .read) final w c (h .on) (d .machine .core) (t .stays);
-            plain =
-                ap (λ (k : ℕ). units all final k 0 (machineOf s frame)) (t .used-is)
-                ∙ units-add all final (y .sum) (t .count) 0 (machineOf s frame)
-                ∙ ap (λ (x : Done). units all final (t .count) (x .used) (x .machine)) (h .plain)
-                ∙ t .same;
-          })
-
-  so-restart : (y : Configuration) → So y → Allowed s final restarting y → So (courseCall [] restarting y)
-  unfolding courseCall restart
-  so-restart y h allowed = go (unfit (y .state)) (y .state .core .stop =? 0) refl refl
-    where
-      go : (u a : Bool) → unfit (y .state) ≡ u → y .state .core .stop =? 0 ≡ a → So (courseCall [] restarting y)
-      go true a eu ea = rw eu h
-      go false true eu ea = rw (eu, ea) h
-      go false false eu ea = absurd (allowed (rw (eu, ea)))
-
-  so-call : (ring : List ℕ) (call : Call) (y : Configuration) → length all ≡ s .core .ringlength → So y → Allowed s final call y
-      → Words all s ring call y → So (courseCall ring call y)
-  unfolding courseCall
-  so-call ring (publishing p) y all-is h a w = so-publish y p h a
-  so-call ring (running budget) y all-is h a w = so-run y ring budget all-is h w
-  so-call ring asking y all-is h a w = h
-  so-call ring restarting y all-is h a w = so-restart y h a
-
-  so-calls : (calls : List Lent) (y : Configuration) → length all ≡ s .core .ringlength → So y → AlongFed all s final calls y
-      → So (performs calls y)
-  so-calls [] y all-is h a = h
-  so-calls (x ∷ xs) y all-is h a =
-      so-calls xs (perform x y) all-is
-      (rw (perform-course (x .ring) y (x .call)) (so-call (x .ring) (x .call) y all-is h (a .0) (a .1))) (a .2)
+    calls-reached : (calls : List Lent) (y : Configuration) → Reached y → AlongFed all s final calls y → Reached (performs calls y)
+    calls-reached [] y h a = h
+    calls-reached (x ∷ xs) y h a =
+        calls-reached xs (perform x y) (call-reached (x .ring) y (did (x .ring) (x .call) y) h (a .0) (a .1)) (a .2)
 
 -- ---- the theorem
 
--- no words wait between the read pointer and itself, so the start is on the run
-on-start : (s : State) (final : ℕ) → Fit (s .core) (s .write) → Published s final
-    → OnRun (s .core .ringlength) (s .core .read) final (s .write) (s .core)
-unfolding waiting
-on-start s final f p = record {
-  size-is = refl;
-  origin-in = f .read-in;
-  final-in = p .position-in;
-  read-in = f .read-in;
-  write-in = f .write-in;
-  past = omega (arith, empty (s .core .ringlength) (s .core .read));
-  ahead = p .rule;
-}
-
 module _ (all : List ℕ) (s : State) (frame : List ℕ) (final : ℕ) (fixed : Fixed all s frame) (accepted : Accepted (publish s final)) where
-  abbrev p : Published s final
-  p = published s final accepted
-
   abbrev m : Machine
   m = machineOf s frame
 
-  -- the configuration once the final position is published
-  wellformed-final : WellFormed all final m
-  wellformed-final =
+  -- publishing the final position
+  published : (perform (record { ring = all; call = publishing final }) (start s frame) ≡ start (withWrite s final) frame)
+      × (final < s .core .ringlength)
+      × (waiting (s .core .ringlength) (s .core .read) (s .write) ≤ waiting (s .core .ringlength) (s .core .read) final)
+  published = go (did all (publishing final) (start s frame))
+    where
+      go : {z : Configuration} → Did all (start s frame) (publishing final) z
+          → (z ≡ start (withWrite s final) frame)
+          × (final < s .core .ringlength)
+          × (waiting (s .core .ringlength) (s .core .read) (s .write) ≤ waiting (s .core .ringlength) (s .core .read) final)
+      go (Did.refuses n) = absurd (n accepted)
+      go (Did.publishes a l r) = (refl, l, r)
+
+  -- the start is on the run: no words wait between the read pointer and itself
+  reached-start : Reached all s frame final (start s frame)
+  unfolding waiting
+  reached-start =
       let f = fit-parts s (fixed .state-fit) in
       record {
-        fit = record {
-          ring-least = f .ring-least;
-          ring-most = f .ring-most;
-          frame-least = f .frame-least;
-          frame-most = f .frame-most;
-          read-in = f .read-in;
-          write-in = p .position-in;
-          stop-fit = f .stop-fit;
-          place-fit = f .place-fit;
+        on = record {
+          size-is = refl;
+          origin-in = f .read-in;
+          final-in = published .1;
+          past = omega (arith, empty (s .core .ringlength) (s .core .read));
+          ahead = published .2;
+          fit = f;
         };
-        ring-is = fixed .ring-is;
-        frame-is = fixed .frame-is;
+        plain = units-zero all final 0 m;
       }
 
-  -- publishing the final position alone
-  published-configuration : perform (record { ring = all; call = publishing final }) (start s frame) ≡ start (withWrite s final) frame
-  published-configuration = rw (p .state-is, p .units-none)
+  -- the configuration once the final position is published
+  wellformed-final : WellFormed all final m
+  wellformed-final = record {
+    fit = fit-later (s .core) (s .write) final (published .1) (published .2) (fit-parts s (fixed .state-fit));
+    ring-is = fixed .ring-is;
+    frame-is = fixed .frame-is;
+  }
 
   at-once : (budgets : List ℕ) → atOnce all s frame final budgets ≡ configuration final (units all final (total budgets) 0 m)
   at-once budgets =
-      ap (runs all budgets) published-configuration
+      ap (runs all budgets) (published .0)
       ∙ runs-total all budgets (start (withWrite s final) frame) wellformed-final
 
   -- two numbers of units at whose end nothing more can be done have the same end
@@ -292,10 +237,10 @@ module _ (all : List ℕ) (s : State) (frame : List ℕ) (final : ℕ) (fixed : 
       ∙ units-stop all final n (d .used) (d .machine) ends
 
   -- enough runs after the calls
-  at-last : (y : Configuration) → So all s frame final y → y .state .write ≡ final
+  at-last : (y : Configuration) → Reached all s frame final y → y .state .write ≡ final
       → runs all enoughRuns y ≡ atOnce all s frame final enoughRuns
   at-last y h w =
-      let k = machineOf (y .state) (y .frame) in
+      let k = machineIn y in
       let wellformed : WellFormed all final k = rw (h .plain) at (wellformed-units all final (y .sum) 0 m wellformed-final) in
       runs-total all enoughRuns y (rw w wellformed)
       ∙ ap (λ (x : ℕ). configuration x (units all x (total enoughRuns) (y .sum) k)) w
@@ -303,15 +248,15 @@ module _ (all : List ℕ) (s : State) (frame : List ℕ) (final : ℕ) (fixed : 
       ∙ ap (configuration final) (sym (units-add all final (y .sum) (total enoughRuns) 0 m) ∙ no-more (y .sum))
       ∙ sym (at-once enoughRuns)
 
-  arrived : (y : Configuration) → So all s frame final y → Arrived all s frame final y
+  arrived : (y : Configuration) → Reached all s frame final y → Arrived all s frame final y
   arrived y h = record {
-    same-units = rw (p .state-is) (h .plain);
+    same-units = rw (ap (λ (z : Configuration). z .state) (published .0)) (h .plain);
     same-end = λ w r budgets q.
         let z : possible all (y .state .core) final ≡ false = rw w at (rests-impossible all y r) in
         let e = at-once budgets in
         let i = rests-impossible all (configuration final (units all final (total budgets) 0 m)) (rw e at q) in
-        e ∙ ap (configuration final) (same-rest (y .sum) (total budgets) (machineOf (y .state) (y .frame)) (h .plain) z i)
-        ∙ ap (λ (x : ℕ). configuration x (done (machineOf (y .state) (y .frame)) (y .sum))) (sym w);
+        e ∙ ap (configuration final) (same-rest (y .sum) (total budgets) (machineIn y) (h .plain) z i)
+        ∙ ap (λ (x : ℕ). configuration x (done (machineIn y) (y .sum))) (sym w);
     at-once-rests =
         subst (Rests all) (sym (at-once enoughRuns))
         (impossible-rests all (configuration final (units all final (total enoughRuns) 0 m)) ends);
@@ -320,15 +265,11 @@ module _ (all : List ℕ) (s : State) (frame : List ℕ) (final : ℕ) (fixed : 
 
 pub demand3-fed : Demand3Fed
 unfolding Demand3Fed
-demand3-fed all s frame final calls fixed accepted along =
-    let f = fit-parts s (fixed .state-fit) in
-    let p = published s final accepted in
-    let first : So all s frame final (start s frame) =
-    record { on = on-start s final f p; plain = units-zero all final 0 (machineOf s frame) } in (
-      performs-course calls (start s frame),
-      arrived all s frame final fixed accepted (performs calls (start s frame))
-          (so-calls all s frame final calls (start s frame) (fixed .ring-is) first along),
-    )
+demand3-fed all s frame final calls fixed accepted along = (
+  performs-course calls (start s frame),
+  arrived all s frame final fixed accepted (performs calls (start s frame))
+      (calls-reached all s frame final (fixed .ring-is) calls (start s frame) (reached-start all s frame final fixed accepted) along),
+)
 
 -- one ring lent at every call agrees with itself
 along-fed : (ring : List ℕ) (s : State) (final : ℕ) (calls : List Call) (y : Configuration) → Along ring s final calls y

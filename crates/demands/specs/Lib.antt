@@ -1,11 +1,11 @@
 pub mod Waits
 pub mod Table
+pub mod Courses
 pub mod Demand1
 pub mod Demand2
-pub mod Courses
 pub mod Runs
-pub mod Arrival
 pub mod Lasting
+pub mod Arrival
 pub mod Progress
 pub mod Demand3
 pub mod Night

@@ -4,30 +4,28 @@
 -- machine that reads the tape. It answers the user's "a write pointer used again after a lap looks like any other".
 use Prim.Native.Nat.{ℕ, zero, suc, _+_, _-_, _%_, _≤_, _<_}
 use mathlib.Core.Path.{_≡_, refl, sym, ap, subst, _∙_}
-use mathlib.Core.Bool.{Bool, true, false, not, _&&_}
+use mathlib.Core.Bool.{Bool, true, false}
 use mathlib.Core.List.{List, [], _∷_}
 use native.Mathlib.Omega.{arith}
 use native.Mathlib.Nat.{add-zero, zero-add, suc-add, mod-lt, mod-eq-of-lt, mod-add-mod}
 use lib.ListN.{length, getD}
 use lib.Dec.{ltb}
-use borrow.Author.Tests.{ltb-true, ltb-false, lt-ltb, le-leb, eqb-true, eq-eqb, ne-eqb}
-use Rattle.model.specs.Choice.{_<?_, _≤?_, _=?_, if_then_else_, both, not-both}
+use borrow.Author.Tests.{ltb-true, ltb-false, eq-eqb, ne-eqb}
+use Rattle.model.specs.Choice.{_=?_, if_then_else_, not-both}
 use Rattle.model.specs.Ring.{Agree, distance, waiting, distance-lt, distance-leads, empty}
 use Rattle.model.specs.Unit.{Machine, Done, unit, possible, units}
 use Rattle.model.specs.Steps.{possible-later}
 use Rattle.model.specs.Calls.{unfit, publish, run, restart, withWrite, numberOf, machineOf}
-use Rattle.model.specs.Course.{Call, publishing, running, asking, restarting, Lent, Configuration, courseUnits, courseCall}
-use Rattle.model.specs.Perform.{perform, performs, runs, total, start, Accepted, Fixed, Rests}
+use Rattle.model.specs.Course.{Call, publishing, running, asking, restarting, Lent, Configuration, withState}
+use Rattle.model.specs.Perform.{answerOf, perform, performs, runs, total, start, Accepted, Fixed, Rests}
 use Rattle.model.specs.declared.Core.{Core}
 use Rattle.model.specs.declared.State.{State}
 use Rattle.laws.specs.Modular.{distance-sum, distance-next}
-use Rattle.laws.specs.Units.{units-zero, units-stop, units-step}
-use Rattle.laws.specs.Fit.{fit-parts}
-use Rattle.laws.specs.WellFormed.{wellformed-run}
-use Rattle.demands.specs.Table.{run-answers}
-use Rattle.demands.specs.Courses.{configuration, course-units, perform-course}
-use Rattle.demands.specs.Runs.{published, course-publishes, course-runs, rests-impossible, impossible-rests, runs-total}
-use Rattle.demands.specs.Arrival.{OnRun, unit-on, unit-same}
+use Rattle.laws.specs.Units.{units-each}
+use Rattle.laws.specs.Fit.{Fit, fit-parts, fit-later}
+use Rattle.demands.specs.Courses.{configuration, machineIn, Did, did, accepted-rules}
+use Rattle.demands.specs.Runs.{rests-impossible, impossible-rests, runs-total}
+use Rattle.demands.specs.Arrival.{OnRun, on-read, unit-on, unit-same}
 use Rattle.demands.specs.Lasting.{lasting}
 use Rattle.demands.specs.Progress.{enoughRuns, fixed-wellformed, progress}
 
@@ -132,7 +130,7 @@ pub record OnTape (tape : ℕ → ℕ) (s : State) (frame : List ℕ) (written :
   -- stands at the absolute read position. Ruled out: an engine that takes equal pointers after a lap as full, and draws the
   -- lap's old words; one that after W draws the words that stood at ring word 0 a lap before.
   pub same-units :
-      tapeUnits tape (y .sum) (firstReading s frame) ≡ record { machine = machineOf (y .state) (y .frame); at = readAt written y }
+      tapeUnits tape (y .sum) (firstReading s frame) ≡ record { machine = machineIn y; at = readAt written y }
   -- Each of these units can be done with the words written. Ruled out: an engine that reports units after it has stopped; one
   -- that draws a command before its last word is published, by the word that stood there a lap before.
   pub each-possible : (k : ℕ) → k < y .sum → Further tape written (tapeUnits tape k (firstReading s frame))
@@ -165,8 +163,7 @@ SameNight =
     → Resting tape (writtenBy s frame other) ring′ (performs other (start s frame))
     → performs one (start s frame) ≡ performs other (start s frame)
 
--- And rest need not be waited for: by progress, enough runs more (four with the largest budget) make up for every way of
--- arriving late.
+-- And rest need not be waited for: by progress, enough runs more make up for every way of arriving late.
 unfoldable pub NightAtLast : Type 0
 NightAtLast =
     (tape : ℕ → ℕ) (s : State) (frame : List ℕ) (one other : List Lent) (ring ring′ : List ℕ)
@@ -251,8 +248,7 @@ all-lent tape [] written y none = tt
 all-lent tape (publishing p ∷ calls) written y none = (tt, all-lent tape calls _ _ none)
 all-lent tape (running budget ∷ calls) written y none =
     let ring = window tape (y .state .core .ringlength) (readAt written y) in (
-      λ a. window-lent tape y written
-          (wellformed-run ring (y .state) (y .frame) (sym (run-answers ring (y .state) (y .frame) budget) ∙ a) .fit .read-in),
+      λ a. window-lent tape y written (fit-parts (y .state) (accepted-rules ring (running budget) y a .0) .read-in),
       all-lent tape calls _ _ none,
     )
 all-lent tape (asking ∷ calls) written y none = (tt, all-lent tape calls _ _ none)
@@ -267,22 +263,26 @@ nights-exist tape s frame calls none = all-lent tape calls (writtenFirst s) (sta
 -- the engine reads word number `at`, and the words from there up to `written` wait
 record Here (n w written at : ℕ) (c : Core) : Type 0 where
   size-is : c .ringlength ≡ n
-  read-in : c .read < n
-  write-in : w < n
   read-is : at % n ≡ c .read
   reach : at + waiting n (c .read) w ≡ written
+  fit : Fit c w
+
+here-read : {n w written at : ℕ} {c : Core} → Here n w written at c → c .read < n
+here-read here = rw (here .size-is) at (here .fit .read-in)
+
+here-write : {n w written at : ℕ} {c : Core} → Here n w written at c → w < n
+here-write here = rw (here .size-is) at (here .fit .write-in)
 
 module _ (tape : ℕ → ℕ) (n w written at : ℕ) (c : Core) (here : Here n w written at c) where
   here-on : OnRun n (c .read) w w c
   unfolding waiting
   here-on = record {
     size-is = here .size-is;
-    origin-in = here .read-in;
-    final-in = here .write-in;
-    read-in = here .read-in;
-    write-in = here .write-in;
+    origin-in = here-read here;
+    final-in = here-write here;
     past = omega (arith, empty n (c .read));
     ahead = omega arith;
+    fit = here .fit;
   }
 
   here-agree : (ring : List ℕ) → ((k : ℕ) → at ≤ k → k < written → getD ring (k % n) 0 ≡ tape k)
@@ -291,25 +291,24 @@ module _ (tape : ℕ → ℕ) (n w written at : ℕ) (c : Core) (here : Here n w
   here-agree ring holds x l h =
       let j = distance n (c .read) x in
       let e : (at + j) % n ≡ x =
-      sym (mod-add-mod at n j) ∙ ap (λ (r : ℕ). (r + j) % n) (here .read-is) ∙ distance-leads n (c .read) x (here .read-in) l in
+      sym (mod-add-mod at n j) ∙ ap (λ (r : ℕ). (r + j) % n) (here .read-is) ∙ distance-leads n (c .read) x (here-read here) l in
       subst (λ (q : ℕ). getD ring q 0 ≡ getD (window tape n at) q 0) e
       (holds (at + j) (omega arith) (omega (arith, here .reach))
-      ∙ sym (window-holds tape n at (at + j) (omega arith) (omega (arith, distance-lt n (c .read) x (here .read-in)))))
+      ∙ sym (window-holds tape n at (at + j) (omega arith) (omega (arith, distance-lt n (c .read) x (here-read here)))))
 
   -- the same number of words further on for the read pointer and on the tape
   here-next : (d : Core) → OnRun n (c .read) w w d → Here n w written (at + distance n (c .read) (d .read)) d
   unfolding waiting
   here-next d on =
       let j = distance n (c .read) (d .read) in
-      let s = distance-sum n (c .read) (d .read) w (here .read-in) (on .read-in) (here .write-in) (on .past) in
+      let s = distance-sum n (c .read) (d .read) w (here-read here) (on-read on) (here-write here) (on .past) in
       record {
         size-is = on .size-is;
-        read-in = on .read-in;
-        write-in = on .write-in;
         read-is =
             sym (mod-add-mod at n j) ∙ ap (λ (r : ℕ). (r + j) % n) (here .read-is)
-            ∙ distance-leads n (c .read) (d .read) (here .read-in) (on .read-in);
+            ∙ distance-leads n (c .read) (d .read) (here-read here) (on-read on);
         reach = omega (arith, here .reach);
+        fit = on .fit;
       }
 
 abbrev reading : Machine → ℕ → Reading
@@ -370,34 +369,30 @@ module _ (tape : ℕ → ℕ) (n w written : ℕ) (ring : List ℕ) (ring-is : l
 
   units-taken : (k used : ℕ) (m : Machine) (at : ℕ) → Here n w written at (m .core)
       → ((k : ℕ) → at ≤ k → k < written → getD ring (k % n) 0 ≡ tape k) → Taken tape n w written used (reading m at) (units ring w k used m)
-  units-taken zero used m at here holds = rw (units-zero ring w used m) (taken-none used m at here)
-  units-taken (suc k) used m at here holds =
-      go (possible ring (m .core) w) refl
-      (λ t. units-taken k (used + 1) (unit ring m) (t .next) (t .here) (λ j h l. holds j (omega (arith, t .forward)) l))
+  units-taken =
+      units-each ring w
+      (λ k used m d. (at : ℕ) → Here n w written at (m .core) → ((k : ℕ) → at ≤ k → k < written → getD ring (k % n) 0 ≡ tape k)
+      → Taken tape n w written used (reading m at) d)
+      (λ used m at here holds. taken-none used m at here)
+      (λ k used m e at here holds. taken-none used m at here)
+      (λ k used m d e i at here holds.
+      let t = unit-stepped m at here holds e in
+      let r = i (t .next) (t .here) (λ j h l. holds j (omega (arith, t .forward)) l) in
+      record {
+        count = suc (r .count);
+        used-is = r .used-is ∙ omega arith;
+        at = r .at;
+        forward = omega (arith, t .forward, r .forward);
+        same = ap (tapeUnits tape (r .count)) (t .same) ∙ r .same;
+        here = r .here;
+        each = each used m d at t r;
+      })
     where
-      go : (b : Bool) → possible ring (m .core) w ≡ b
-          → ((t : Stepped tape n w written ring m at) → Taken tape n w written (used + 1) (reading (unit ring m) (t .next)) (units ring w k (used + 1) (unit ring m)))
-          → Taken tape n w written used (reading m at) (units ring w (suc k) used m)
-      go true e i =
-          let t = unit-stepped m at here holds e in
-          let r = i t in
-          rw (units-step ring w k used m e)
-          (record {
-            count = suc (r .count);
-            used-is = r .used-is ∙ omega arith;
-            at = r .at;
-            forward = omega (arith, t .forward, r .forward);
-            same = ap (tapeUnits tape (r .count)) (t .same) ∙ r .same;
-            here = r .here;
-            each = each t r;
-          })
-        where
-          each : (t : Stepped tape n w written ring m at)
-              → (r : Taken tape n w written (used + 1) (reading (unit ring m) (t .next)) (units ring w k (used + 1) (unit ring m)))
-              → (j : ℕ) → j < suc (r .count) → Further tape written (tapeUnits tape j (reading m at))
-          each t r zero h = t .further
-          each t r (suc j) h = subst (λ (z : Reading). Further tape written (tapeUnits tape j z)) (sym (t .same)) (r .each j (omega arith))
-      go false e i = rw (units-stop ring w (suc k) used m e) (taken-none used m at here)
+      each : (used : ℕ) (m : Machine) (d : Done) (at : ℕ) (t : Stepped tape n w written ring m at)
+          → (r : Taken tape n w written (used + 1) (reading (unit ring m) (t .next)) d)
+          → (j : ℕ) → j < suc (r .count) → Further tape written (tapeUnits tape j (reading m at))
+      each used m d at t r zero h = t .further
+      each used m d at t r (suc j) h = subst (λ (z : Reading). Further tape written (tapeUnits tape j z)) (sym (t .same)) (r .each j (omega arith))
 
 tape-add : (tape : ℕ → ℕ) (a b : ℕ) (x : Reading) → tapeUnits tape (a + b) x ≡ tapeUnits tape b (tapeUnits tape a x)
 tape-add tape zero b x = rw zero-add
@@ -410,62 +405,35 @@ module _ (tape : ℕ → ℕ) (n : ℕ) (first : Reading) where
   record Followed (y : Configuration) (written : ℕ) : Type 0 where
     at : ℕ
     here : Here n (y .state .write) written at (y .state .core)
-    same : tapeUnits tape (y .sum) first ≡ reading (machineOf (y .state) (y .frame)) at
+    same : tapeUnits tape (y .sum) first ≡ reading (machineIn y) at
     each : (k : ℕ) → k < y .sum → Further tape written (tapeUnits tape k first)
 
   later-further : (written more : ℕ) (x : Reading) → Further tape written x → Further tape (written + more) x
   later-further written more x q = (q .0, q .1, omega (arith, q .2))
 
-  followed-publish : (y : Configuration) (written p : ℕ) → Followed y written
-      → Followed (courseCall [] (publishing p) y) (writtenNext written (publishing p) y)
-  unfolding courseCall waiting
-  followed-publish y written p h = go test refl
-    where
-      c : Core
-      c = y .state .core
-
-      w : ℕ
-      w = y .state .write
-
-      test : Bool
-      test = not (unfit (y .state)) && p <? c .ringlength && waiting (c .ringlength) (c .read) w ≤? distance (c .ringlength) (c .read) p
-
-      accepted : Accepted (publish (y .state) p) → test ≡ true
-      accepted a =
-          let q = published (y .state) p a in
-          rw (q .state-fit, lt-ltb p (c .ringlength) (q .position-in)) (le-leb _ _ (q .rule))
-
-      moved : Accepted (publish (y .state) p)
-          → Followed (record { state = withWrite (y .state) p; frame = y .frame; sum = y .sum }) (written + distance (c .ringlength) w p)
-      moved a =
-          let q = published (y .state) p a in
-          let p-in = rw (h .here .size-is) at (q .position-in) in
-          let ruled = rw (h .here .size-is) at (q .rule) in
-          let s = distance-sum n (c .read) w p (h .here .read-in) (h .here .write-in) p-in ruled in
-          record {
-            at = h .at;
-            here = record {
-              size-is = h .here .size-is;
-              read-in = h .here .read-in;
-              write-in = p-in;
-              read-is = h .here .read-is;
-              reach = rw (h .here .size-is) (omega (arith, h .here .reach));
-            };
-            same = h .same;
-            each = λ k l. later-further written _ (tapeUnits tape k first) (h .each k l);
-          }
-
-      -- an accepted publishing is counted, and a refused one is not
-      counted : Accepted (publish (y .state) p) → writtenNext written (publishing p) y ≡ written + distance (c .ringlength) w p
-      counted a = rw (eq-eqb (numberOf (publish (y .state) p .reply)) 0 a)
-
-      not-counted : (Accepted (publish (y .state) p) → ⊥) → writtenNext written (publishing p) y ≡ written
-      not-counted n = rw (ne-eqb (numberOf (publish (y .state) p .reply)) 0 n)
-
-      go : (b : Bool) → test ≡ b
-          → Followed (if b then record { state = withWrite (y .state) p; frame = y .frame; sum = y .sum } else y) (writtenNext written (publishing p) y)
-      go true e = let a = course-publishes (y .state) p e in subst (Followed _) (sym (counted a)) (moved a)
-      go false e = subst (Followed y) (sym (not-counted (λ a. not-both test (accepted a) e))) h
+  followed-publish : (y : Configuration) (written p : ℕ) → Followed y written → p < y .state .core .ringlength
+      → waiting (y .state .core .ringlength) (y .state .core .read) (y .state .write)
+      ≤ waiting (y .state .core .ringlength) (y .state .core .read) p
+      → Followed (withState y (withWrite (y .state) p)) (written + distance (y .state .core .ringlength) (y .state .write) p)
+  unfolding waiting
+  followed-publish y written p h l r =
+      let c = y .state .core in
+      let w = y .state .write in
+      let f = fit-later c w p l r (h .here .fit) in
+      let s = distance-sum (c .ringlength) (c .read) w p (f .read-in) (h .here .fit .write-in) l r in
+      let reach = subst (λ (q : ℕ). h .at + distance q (c .read) w ≡ written) (sym (h .here .size-is)) (h .here .reach) in
+      record {
+        at = h .at;
+        here = record {
+          size-is = h .here .size-is;
+          read-is = h .here .read-is;
+          reach =
+              subst (λ (q : ℕ). h .at + distance q (c .read) p ≡ written + distance (c .ringlength) w p) (h .here .size-is) (omega arith);
+          fit = f;
+        };
+        same = h .same;
+        each = λ k l. later-further written _ (tapeUnits tape k first) (h .each k l);
+      }
 
   -- the words that wait, counted from `at`
   holds-at : (y : Configuration) (written : ℕ) (h : Followed y written) (ring : List ℕ) → Holds tape written ring y
@@ -475,17 +443,17 @@ module _ (tape : ℕ → ℕ) (n : ℕ) (first : Reading) where
       subst (λ (q : ℕ). getD ring (k % q) 0 ≡ tape k) (h .here .size-is)
       (holds k
       (subst (λ (q : ℕ). written - waiting q (y .state .core .read) (y .state .write) ≤ k) (sym (h .here .size-is)) (omega arith))
-      u)
+      (omega arith))
 
   -- some units more
   module _ (y : Configuration) (written : ℕ) (h : Followed y written) (d : Done)
-      (t : Taken tape n (y .state .write) written (y .sum) (reading (machineOf (y .state) (y .frame)) (h .at)) d) where
+      (t : Taken tape n (y .state .write) written (y .sum) (reading (machineIn y) (h .at)) d) where
     taken-each : (k : ℕ) (b : Bool) → ltb k (y .sum) ≡ b → k < y .sum + t .count → Further tape written (tapeUnits tape k first)
     taken-each k true e l = h .each k (ltb-true _ _ e)
     taken-each k false e l =
         let a = ltb-false k (y .sum) e in
         let s : y .sum + (k - y .sum) ≡ k = omega arith in
-        let q : tapeUnits tape k first ≡ tapeUnits tape (k - y .sum) (reading (machineOf (y .state) (y .frame)) (h .at)) =
+        let q : tapeUnits tape k first ≡ tapeUnits tape (k - y .sum) (reading (machineIn y) (h .at)) =
         ap (λ (j : ℕ). tapeUnits tape j first) (sym s) ∙ tape-add tape (y .sum) (k - y .sum) first
         ∙ ap (tapeUnits tape (k - y .sum)) (h .same) in
         subst (Further tape written) (sym q) (t .each (k - y .sum) (omega arith))
@@ -500,58 +468,36 @@ module _ (tape : ℕ → ℕ) (n : ℕ) (first : Reading) where
       each = λ k l. taken-each k (ltb k (y .sum)) refl (omega (arith, t .used-is));
     }
 
-  followed-run : (y : Configuration) (written : ℕ) (ring : List ℕ) (budget : ℕ) → Followed y written → Hosted tape written ring (running budget) y
-      → Followed (courseCall ring (running budget) y) written
-  unfolding courseCall
-  followed-run y written ring budget h hosted = go test refl
-    where
-      c : Core
-      c = y .state .core
+  -- an accepted publishing is counted, and a refused one is not
+  counted : (written p : ℕ) (y : Configuration) → Accepted (publish (y .state) p)
+      → writtenNext written (publishing p) y ≡ written + distance (y .state .core .ringlength) (y .state .write) p
+  counted written p y a = rw (eq-eqb (numberOf (publish (y .state) p .reply)) 0 a)
 
-      w : ℕ
-      w = y .state .write
+  not-counted : (written : ℕ) (ring : List ℕ) (call : Call) (y : Configuration) → (Accepted (answerOf ring call y) → ⊥)
+      → writtenNext written call y ≡ written
+  not-counted written ring (publishing p) y n = rw (ne-eqb (numberOf (publish (y .state) p .reply)) 0 n) (omega arith)
+  not-counted written ring (running budget) y n = refl
+  not-counted written ring asking y n = refl
+  not-counted written ring restarting y n = refl
 
-      m : Machine
-      m = machineOf (y .state) (y .frame)
-
-      test : Bool
-      test = not (unfit (y .state)) && (length ring =? c .ringlength) && (length (y .frame) =? c .framelength)
-
-      go : (b : Bool) → test ≡ b → Followed (if b then courseUnits ring budget y else y) written
-      go false e = h
-      go true e =
-          let two = both (not (unfit (y .state)) && (length ring =? c .ringlength)) _ e in
-          let ring-is = eqb-true _ _ (both (not (unfit (y .state))) _ (two .0) .1) ∙ h .here .size-is in
-          let t = units-taken tape n w written ring ring-is budget (y .sum) m (h .at) (h .here) (holds-at y written h ring (hosted (course-runs ring y budget e))) in
-          rw (course-units ring budget y) (followed-taken y written h (units ring w budget (y .sum) m) t)
-
-  followed-restart : (y : Configuration) (written : ℕ) → Followed y written → (Accepted (restart (y .state)) → ⊥)
-      → Followed (courseCall [] restarting y) written
-  unfolding courseCall restart
-  followed-restart y written h none = go (unfit (y .state)) (y .state .core .stop =? 0) refl refl
-    where
-      go : (u a : Bool) → unfit (y .state) ≡ u → y .state .core .stop =? 0 ≡ a
-          → Followed (courseCall [] restarting y) written
-      go true a eu ea = rw eu h
-      go false true eu ea = rw (eu, ea) h
-      go false false eu ea = absurd (none (rw (eu, ea)))
-
-  followed-call : (ring : List ℕ) (call : Call) (y : Configuration) (written : ℕ) → Followed y written → Hosted tape written ring call y
-      → Followed (courseCall ring call y) (writtenNext written call y)
-  unfolding courseCall
-  followed-call ring (publishing p) y written h a = followed-publish y written p h
-  followed-call ring (running budget) y written h a = followed-run y written ring budget h a
-  followed-call ring asking y written h a = h
-  followed-call ring restarting y written h a = followed-restart y written h a
+  followed-call : (ring : List ℕ) (y : Configuration) (written : ℕ) {call : Call} {z : Configuration} → Did ring y call z
+      → Followed y written → Hosted tape written ring call y → Followed z (writtenNext written call y)
+  followed-call ring y written (Did.refuses {call} n) h hosted = subst (Followed y) (sym (not-counted written ring call y n)) h
+  followed-call ring y written Did.asks h hosted = h
+  followed-call ring y written (Did.publishes {p} a l r) h hosted =
+      subst (Followed _) (sym (counted written p y a)) (followed-publish y written p h l r)
+  followed-call ring y written (Did.runs {budget} a f) h hosted =
+      followed-taken y written h _
+      (units-taken tape n (y .state .write) written ring (f .ring-is ∙ h .here .size-is) budget (y .sum) (machineIn y) (h .at) (h .here)
+      (holds-at y written h ring (hosted a)))
+  followed-call ring y written (Did.restarts a n) h hosted = absurd (hosted a)
 
   followed-calls : (calls : List Lent) (y : Configuration) (written : ℕ) → Followed y written → AllHosted tape written calls y
       → Followed (performs calls y) (writtenLast written calls y)
   followed-calls [] y written h a = h
   followed-calls (x ∷ xs) y written h a =
       followed-calls xs (perform x y) (writtenNext written (x .call) y)
-      (subst (λ (z : Configuration). Followed z (writtenNext written (x .call) y)) (sym (perform-course (x .ring) y (x .call)))
-      (followed-call (x .ring) (x .call) y written h (a .0)))
-      (a .1)
+      (followed-call (x .ring) y written (did (x .ring) (x .call) y) h (a .0)) (a .1)
 
 -- ---- the theorems
 
@@ -567,13 +513,7 @@ module _ (tape : ℕ → ℕ) (s : State) (frame : List ℕ) (fit : unfit s ≡ 
       let f = fit-parts s fit in
       record {
         at = s .core .read;
-        here = record {
-          size-is = refl;
-          read-in = f .read-in;
-          write-in = f .write-in;
-          read-is = mod-eq-of-lt (f .read-in);
-          reach = refl;
-        };
+        here = record { size-is = refl; read-is = mod-eq-of-lt (f .read-in); reach = refl; fit = f };
         same = refl;
         each = λ k h. absurd (omega arith);
       }
@@ -595,14 +535,14 @@ module _ (tape : ℕ → ℕ) (s : State) (frame : List ℕ) (fit : unfit s ≡ 
         let j = distance n (c .read) (y .state .write) in
         ap (λ (x : ℕ). x % n) (sym (h .here .reach)) ∙ sym (mod-add-mod (h .at) n j)
         ∙ ap (λ (x : ℕ). (x + j) % n) (h .here .read-is)
-        ∙ distance-leads n (c .read) (y .state .write) (h .here .read-in) (h .here .write-in)
+        ∙ distance-leads n (c .read) (y .state .write) (here-read (h .here)) (here-write (h .here))
 
     -- where the engine rests, the tape's machine can do no further unit
     no-further : (ring : List ℕ) → Resting tape written ring y → Further tape written (tapeUnits tape (y .sum) first) → ⊥
     no-further ring rest further =
         let c = y .state .core in
         let w = y .state .write in
-        let m = machineOf (y .state) (y .frame) in
+        let m = machineIn y in
         let q = subst (Further tape written) (h .same) further in
         let reach = subst (λ (k : ℕ). h .at + waiting k (c .read) w ≡ written) (sym (h .here .size-is)) (h .here .reach) in
         let e = possible-later (window tape (c .ringlength) (h .at)) c (q .0) w (omega (arith, q .2)) (q .1) in
@@ -620,7 +560,7 @@ whole-night tape s frame calls fit hosted =
     let written = writtenBy s frame calls in
     let h = followed-night tape s frame fit calls hosted in
     record {
-      same-units = h .same ∙ ap (reading (machineOf (y .state) (y .frame))) (begins tape s frame fit y written h);
+      same-units = h .same ∙ ap (reading (machineIn y)) (begins tape s frame fit y written h);
       each-possible = h .each;
       at-rest = no-further tape s frame fit y written h;
       write-is = stands tape s frame fit y written h;
@@ -651,25 +591,25 @@ module _ (tape : ℕ → ℕ) (s : State) (frame : List ℕ) (fit : unfit s ≡ 
           let p = ltb-false (y .sum) (z .sum) ea in
           let q = ltb-false (z .sum) (y .sum) eb in
           let same : y .sum ≡ z .sum = omega arith in
-          let machines : machineOf (y .state) (y .frame) ≡ machineOf (z .state) (z .frame) =
+          let machines : machineIn y ≡ machineIn z =
           ap (λ (r : Reading). r .machine) (sym (g .same) ∙ ap (λ (k : ℕ). tapeUnits tape k x) same ∙ h .same) in
           let writes : y .state .write ≡ z .state .write =
           sym (stands tape s frame fit y u g) ∙ ap (λ (k : ℕ). k % s .core .ringlength) as-many ∙ stands tape s frame fit z v h in
           ap (λ (m : Machine). stood m (y .state .write) (y .sum)) machines
-          ∙ ap (λ (w : ℕ). stood (machineOf (z .state) (z .frame)) w (y .sum)) writes
-          ∙ ap (stood (machineOf (z .state) (z .frame)) (z .state .write)) same
+          ∙ ap (λ (w : ℕ). stood (machineIn z) w (y .sum)) writes
+          ∙ ap (stood (machineIn z) (z .state .write)) same
 
   -- enough runs more
   module _ (y : Configuration) (written : ℕ) (ring : List ℕ) (h : Followed tape (s .core .ringlength) x y written)
       (ring-is : length ring ≡ s .core .ringlength) (lasts : Fixed ring (y .state) (y .frame)) (holds : Holds tape written ring y)
       (rests : Rests ring (runs ring enoughRuns y)) where
     abbrev d : Done
-    d = units ring (y .state .write) (total enoughRuns) (y .sum) (machineOf (y .state) (y .frame))
+    d = units ring (y .state .write) (total enoughRuns) (y .sum) (machineIn y)
 
-    abbrev taken : Taken tape (s .core .ringlength) (y .state .write) written (y .sum) (reading (machineOf (y .state) (y .frame)) (h .at)) d
+    abbrev taken : Taken tape (s .core .ringlength) (y .state .write) written (y .sum) (reading (machineIn y) (h .at)) d
     taken =
         units-taken tape (s .core .ringlength) (y .state .write) written ring ring-is (total enoughRuns) (y .sum)
-        (machineOf (y .state) (y .frame)) (h .at) (h .here) (holds-at tape (s .core .ringlength) x y written h ring holds)
+        (machineIn y) (h .at) (h .here) (holds-at tape (s .core .ringlength) x y written h ring holds)
 
     more : runs ring enoughRuns y ≡ configuration (y .state .write) d
     more = runs-total ring enoughRuns y (fixed-wellformed ring y lasts)

@@ -1,56 +1,51 @@
--- One call of a list of numbers, and the end of the list.
-use Prim.Native.Nat.{ℕ, suc, _+_, _-_, _<_}
-use mathlib.Core.Path.{_≡_, refl, sym, ap}
+-- One call more of a list of calls.
+use Prim.Native.Nat.{ℕ, suc, _+_}
+use mathlib.Core.Path.{_≡_, refl, ap, _∙_}
 use mathlib.Core.List.{List}
 use native.Mathlib.Omega.{arith}
-use lib.ListN.{getD}
+use lib.ListN.{length, getD}
 use Rattle.model.specs.Calls.{unitsOf}
-use Rattle.model.specs.Course.{Call, Configuration, course}
+use Rattle.model.specs.Course.{Call, publishing, running, asking, restarting, Configuration}
+use Rattle.model.specs.Perform.{answerOf, frameOf, perform, performs, lent, start}
 use Rattle.model.specs.declared.State.{State}
-use Rattle.model.specs.Perform.{answerOf, frameOf, lent, start}
-use Rattle.demands.specs.Courses.{perform-course}
+use Rattle.model.specs.declared.Answer.{Answer}
 use Rattle.drive.specs.Calls.{callOf, callsOf}
 
 abbrev pub configuration : State → List ℕ → ℕ → Configuration
 configuration s frame sum = record { state = s; frame = frame; sum = sum }
 
--- an answer and the frame memory after a call do not depend on the sum so far
-answer-start : (ring : List ℕ) (call : Call) (s : State) (frame : List ℕ) (sum : ℕ)
-    → answerOf ring call (start s frame) ≡ answerOf ring call (configuration s frame sum)
-answer-start ring (Call.publishing p) s frame sum = refl
-answer-start ring (Call.running budget) s frame sum = refl
-answer-start ring Call.asking s frame sum = refl
-answer-start ring Call.restarting s frame sum = refl
-
-frame-start : (ring : List ℕ) (call : Call) (s : State) (frame : List ℕ) (sum : ℕ)
-    → frameOf ring call (start s frame) ≡ frameOf ring call (configuration s frame sum)
-frame-start ring (Call.publishing p) s frame sum = refl
-frame-start ring (Call.running budget) s frame sum = refl
-frame-start ring Call.asking s frame sum = refl
-frame-start ring Call.restarting s frame sum = refl
+-- the sum so far is only added to
+perform-sum : (ring : List ℕ) (call : Call) (s : State) (frame : List ℕ) (sum : ℕ)
+    → let a = answerOf ring call (start s frame) in
+    perform (record { ring = ring; call = call }) (configuration s frame sum)
+    ≡ configuration (a .state) (frameOf ring call (start s frame)) (sum + unitsOf (a .reply))
+perform-sum ring (publishing p) s frame sum = refl
+perform-sum ring (running budget) s frame sum = refl
+perform-sum ring asking s frame sum = refl
+perform-sum ring restarting s frame sum = refl
 
 module _ (ring kinds positions budgets : List ℕ) where
-  -- the calls that are left, from number i on
-  abbrev pub rest : ℕ → ℕ → Configuration → Configuration
-  rest n i y = course (lent ring (callsOf kinds positions budgets (n - i) i)) y
+  -- k calls from number i on
+  abbrev pub calls : ℕ → ℕ → Configuration → Configuration
+  calls k i y = performs (lent ring (callsOf kinds positions budgets k i)) y
 
-  pub one-call : (n i : ℕ) (s : State) (frame : List ℕ) (sum : ℕ) → i < n
+  -- the calls before number i lead from x to y: from there the k others lead where all of them lead from x
+  pub record Going (x : Configuration) (i : ℕ) (y : Configuration) : Type 0 where
+    pub onward : (k : ℕ) → i + k ≡ length kinds → calls (length kinds) 0 x ≡ calls k i y
+
+module _ {ring kinds positions budgets : List ℕ} {x : Configuration} where
+  pub going-start : Going ring kinds positions budgets x 0 x
+  going-start = record { onward = λ k e. let z : k ≡ length kinds = omega arith in rw z }
+
+  pub going-on : {i : ℕ} {s : State} {frame next : List ℕ} {sum units : ℕ} {a : Answer}
       → let call = callOf (getD kinds i 0) (getD positions i 0) (getD budgets i 0) in
-      rest n i (configuration s frame sum)
-      ≡ rest n (i + 1)
-      (configuration (answerOf ring call (start s frame) .state) (frameOf ring call (start s frame)) (sum + unitsOf (answerOf ring call (start s frame) .reply)))
+      Going ring kinds positions budgets x i (configuration s frame sum)
+      → a ≡ answerOf ring call (start s frame) → next ≡ frameOf ring call (start s frame) → units ≡ unitsOf (a .reply)
+      → Going ring kinds positions budgets x (i + 1) (configuration (a .state) next (sum + units))
   unfolding callsOf
-  one-call n i s frame sum h =
-      let call = callOf (getD kinds i 0) (getD positions i 0) (getD budgets i 0) in
-      let y = configuration s frame sum in
-      let e : n - i ≡ suc (n - (i + 1)) = omega arith in
-      let p = perform-course ring y call in
-      rw (e, answer-start ring call s frame sum, frame-start ring call s frame sum)
-      (ap (course (lent ring (callsOf kinds positions budgets (n - (i + 1)) (i + 1)))) (sym p))
-
-  pub no-call : (n : ℕ) (y : Configuration) → rest n n y ≡ y
-  unfolding callsOf
-  no-call n y = let e : n - n ≡ 0 = omega arith in rw e
-
-  pub all-calls : (n : ℕ) (y : Configuration) → course (lent ring (callsOf kinds positions budgets n 0)) y ≡ rest n 0 y
-  all-calls n y = let e : n - 0 ≡ n = omega arith in rw e
+  going-on {i} {s} {frame} {next} {sum} {units} {a} h answered drawn counted = record {
+    onward = λ k e.
+        let call = callOf (getD kinds i 0) (getD positions i 0) (getD budgets i 0) in
+        h .onward (suc k) (omega arith)
+        ∙ rw (counted, answered, drawn) (ap (calls ring kinds positions budgets k (i + 1)) (perform-sum ring call s frame sum));
+  }

@@ -6,7 +6,7 @@ use Rattle.model.specs.Choice.{_=?_, if_then_else_}
 use Rattle.model.specs.Course.{Call, publishing, running, asking, restarting}
 
 -- 0 publishes the position, 1 runs with the budget, 2 asks for the room, any other restarts
-unfoldable pub callOf : ℕ → ℕ → ℕ → Call
+abbrev pub callOf : ℕ → ℕ → ℕ → Call
 callOf kind position budget =
     if kind =? 0 then publishing position
     else if kind =? 1 then running budget

@@ -1,10 +1,10 @@
 -- Demand 3 of what a list of calls comes to.
 use Prim.Native.Nat.{ℕ}
-use mathlib.Core.Path.{_≡_, sym, subst, _∙_}
+use mathlib.Core.Path.{_≡_, sym, _∙_}
 use mathlib.Core.List.{List}
 use Rattle.model.specs.Calls.{publish}
 use Rattle.model.specs.Course.{Call, Configuration, course}
-use Rattle.model.specs.Perform.{lent, start, Accepted, Fixed}
+use Rattle.model.specs.Perform.{performs, lent, start, Accepted, Fixed}
 use Rattle.model.specs.declared.State.{State}
 use Rattle.demands.specs.Courses.{performs-course}
 use Rattle.demands.specs.Demand3.{Along, Arrived, Demand3, demand3}
@@ -18,13 +18,11 @@ pub record Demanded (ring : List ℕ) (s : State) (frame : List ℕ) (calls : Li
   pub arrives : (final : ℕ) → Fixed ring s frame → Accepted (publish s final) → Along ring s final calls (start s frame)
       → Arrived ring s frame final y
 
--- (b) and (c) follow from (a)
+-- what performing the calls comes to is so: (a) is `performs-course`, (b) and (c) are demand 3
 pub demanded : (ring : List ℕ) (s : State) (frame : List ℕ) (calls : List Call) (y : Configuration)
-    → y ≡ course (lent ring calls) (start s frame) → Demanded ring s frame calls y
+    → performs (lent ring calls) (start s frame) ≡ y → Demanded ring s frame calls y
 unfolding Demand3
 demanded ring s frame calls y e = record {
-  is-course = e;
-  arrives = λ final fixed accepted along.
-      subst (Arrived ring s frame final) (performs-course (lent ring calls) (start s frame) ∙ sym e)
-      (demand3 ring s frame final calls fixed accepted along .1);
+  is-course = sym e ∙ performs-course (lent ring calls) (start s frame);
+  arrives = λ final fixed accepted along. rw e at (demand3 ring s frame final calls fixed accepted along .1);
 }

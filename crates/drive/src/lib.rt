@@ -21,17 +21,17 @@ fn perform(
     kind: u8,
     position: usize,
     budget: u32,
-    words: &[u32],
+    ring: &[u32],
     s: State,
     frame: &mut [u8],
 ) -> Answer
-    ensures { λ r. ⌜ (r ≡ answerOf (now (words .entry)) (callOf kind position budget) (start s (now (frame .entry)))) × (now (frame .exit) ≡ frameOf (now (words .entry)) (callOf kind position budget) (start s (now (frame .entry)))) ⌝ }
+    ensures { λ r. ⌜ (r ≡ answerOf (now (ring .entry)) (callOf kind position budget) (start s (now (frame .entry)))) × (now (frame .exit) ≡ frameOf (now (ring .entry)) (callOf kind position budget) (start s (now (frame .entry)))) ⌝ }
 {
     if kind == 0 {
         return engine::publish(s, position);
     }
     if kind == 1 {
-        return engine::run(words, s, frame, budget);
+        return engine::run(ring, s, frame, budget);
     }
     if kind == 2 {
         return engine::room(s);
@@ -60,24 +60,20 @@ pub fn drive(
     kinds: &[u8],
     positions: &[usize],
     budgets: &[u32],
-    words: &[u32],
+    ring: &[u32],
     s: State,
     frame: &mut [u8],
 ) -> Driven
     requires { ⌜ (length (now kinds) ≤ length (now positions)) × (length (now kinds) ≤ length (now budgets)) × (length (now kinds) ≤ 4294967295) ⌝ }
-    ensures { λ r. ⌜ Demanded (now (words .entry)) s (now (frame .entry)) (callsOf (now (kinds .entry)) (now (positions .entry)) (now (budgets .entry)) (length (now (kinds .entry))) 0) (record { state = r .state; frame = now (frame .exit); sum = r .sum }) ⌝ }
+    ensures { λ r. ⌜ Demanded (now (ring .entry)) s (now (frame .entry)) (callsOf (now (kinds .entry)) (now (positions .entry)) (now (budgets .entry)) (length (now (kinds .entry))) 0) (record { state = r .state; frame = now (frame .exit); sum = r .sum }) ⌝ }
 {
     let mut t = s;
     let mut sum: u64 = 0;
     let mut i = 0;
     while i < kinds.len() {
-        let kind = kinds[i];
-        let position = positions[i];
-        let budget = budgets[i];
-        let a = perform(kind, position, budget, words, t, frame);
-        let next = a.state;
+        let a = perform(kinds[i], positions[i], budgets[i], ring, t, frame);
         let reply = a.reply;
-        t = next;
+        t = a.state;
         sum += units(reply) as u64;
         i += 1;
     }

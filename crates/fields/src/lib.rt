@@ -1,9 +1,8 @@
-// Fields of a word, the colour format's decision, and the completion number.
+// Fields of a word, and the colour format's decision.
 ghost use mathlib.Core.Path.{_≡_};
 ghost use Prim.Native.Nat.{_+_, _-_, _^_, _<_, _≤_};
 ghost use Rattle.model.specs.Bits.{field, set?};
 ghost use Rattle.model.specs.Formats.{formatOf, depthOf};
-ghost use Rattle.model.specs.Completion.{retired};
 use model::Format;
 
 // Bits high:low of a word; the field is narrower than the word.
@@ -53,11 +52,4 @@ pub fn depth_of(code: u32) -> usize
         Format::Bytes(n) => n,
         Format::Refused => 0,
     }
-}
-
-// The completion number once one more command is retired.
-pub fn retire(completion: u32) -> u32
-    ensures { λ r. ⌜ r ≡ retired completion ⌝ }
-{
-    std::num::wrapping_add_u32(completion, 1)
 }

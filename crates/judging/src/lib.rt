@@ -1,26 +1,23 @@
-// Refusals 23 to 28 of a command that draws, on the registers as they would be after loading.
+// Refusals 23 to 28 of what a command draws, on the registers as they would be after loading.
 ghost use mathlib.Core.Path.{_≡_};
-ghost use mathlib.Core.Bool.{false};
-ghost use Prim.Native.Nat.{_≤_};
-ghost use Rattle.model.specs.Choice.{if_then_else_};
-ghost use Rattle.model.specs.BltPixel.{bltOf};
-ghost use Rattle.model.specs.Judging.{refusedFormat, row23, row24Both, row24, row25, row28, judge};
-ghost use Rattle.model.specs.Unit.{pixelCount};
-ghost use Rattle.model.specs.declared.Kind.the-variants.{Blt as BltKind, Vector as VectorKind};
-use model::Blt;
+ghost use mathlib.Core.Bool.{Bool};
+ghost use Rattle.model.specs.BltPixel.{sourceOutside};
+ghost use Rattle.model.specs.Judging.{refusedFormat, row23, row24Both, row24, row25, judge};
+ghost use Rattle.model.specs.declared.Primitive.the-variants.{Blt as BltPrimitive, Vector as VectorPrimitive};
+ghost use Rattle.laws.specs.Some.{isOutside};
+ghost use Rattle.judging.specs.Extents.{RangedSource};
+use model::BASE_OFFSET;
+use model::BLT_MODE;
+use model::CH3_MODE_STR;
+use model::Extent;
 use model::Format;
-use model::Kind;
+use model::Primitive;
+use model::RASTER_MODE;
+use model::REGISTERS;
+use model::Source;
+use model::WID_HEIGHT;
 
-// The registers that judging reads itself.
-const RASTER_MODE: usize = 0;
-
-const WID_HEIGHT: usize = 4;
-
-const CH3_MODE_STR: usize = 12;
-
-const BASE_OFFSET: usize = 14;
-
-const BLT_MODE: usize = 15;
+// ---- 23
 
 fn is_refused(format: Format) -> bool
     ensures { λ r. ⌜ r ≡ refusedFormat format ⌝ }
@@ -31,8 +28,8 @@ fn is_refused(format: Format) -> bool
     }
 }
 
-// 23: the colour format is refused, or alpha is enabled.
-fn bad_format(registers: [u32; 17]) -> bool
+// The colour format is refused, or alpha is enabled.
+fn bad_format(registers: [u32; REGISTERS]) -> bool
     ensures { λ r. ⌜ r ≡ row23 registers ⌝ }
 {
     let mode = registers[RASTER_MODE];
@@ -44,8 +41,10 @@ fn bad_format(registers: [u32; 17]) -> bool
     alpha != 0b00
 }
 
-// 24, of both kinds: source transparency, an inversion, channel 3, a base offset.
-fn bad_bits(registers: [u32; 17]) -> bool
+// ---- 24
+
+// Of BLTs and vectors: source transparency, an inversion, channel 3, a base offset.
+fn bad_bits(registers: [u32; REGISTERS]) -> bool
     ensures { λ r. ⌜ r ≡ row24Both registers ⌝ }
 {
     let mode = registers[RASTER_MODE];
@@ -69,9 +68,9 @@ fn bad_bits(registers: [u32; 17]) -> bool
     base != 0
 }
 
-// 24 of a BLT: a source or pattern mode that is not carried, or one of those bits.
-fn bad_blt_modes(registers: [u32; 17]) -> bool
-    ensures { λ r. ⌜ r ≡ row24 registers BltKind ⌝ }
+// Of a BLT: a source or pattern mode that is not carried, or one of those bits.
+fn bad_blt_modes(registers: [u32; REGISTERS]) -> bool
+    ensures { λ r. ⌜ r ≡ row24 registers BltPrimitive ⌝ }
 {
     let blt = registers[BLT_MODE];
     let raster = registers[RASTER_MODE];
@@ -90,9 +89,9 @@ fn bad_blt_modes(registers: [u32; 17]) -> bool
     bad_bits(registers)
 }
 
-// 24 of a vector: a pattern that is not solid, or one of those bits.
-fn bad_vector_modes(registers: [u32; 17]) -> bool
-    ensures { λ r. ⌜ r ≡ row24 registers VectorKind ⌝ }
+// Of a vector: a pattern that is not solid, or one of those bits.
+fn bad_vector_modes(registers: [u32; REGISTERS]) -> bool
+    ensures { λ r. ⌜ r ≡ row24 registers VectorPrimitive ⌝ }
 {
     let raster = registers[RASTER_MODE];
     let pattern = fields::bits(raster, 9, 8);
@@ -102,9 +101,48 @@ fn bad_vector_modes(registers: [u32; 17]) -> bool
     bad_bits(registers)
 }
 
+// ---- 25
+
+// A BLT's width or height is 0.
+fn no_area(registers: [u32; REGISTERS]) -> bool
+    ensures { λ r. ⌜ r ≡ row25 registers BltPrimitive ⌝ }
+{
+    let size = registers[WID_HEIGHT];
+    let width = fields::bits(size, 27, 16);
+    if width == 0 {
+        return true;
+    }
+    let height = fields::bits(size, 11, 0);
+    height == 0
+}
+
+// ---- 27 and 28
+
+fn is_outside(extent: Extent) -> bool
+    ensures { λ r. ⌜ r ≡ isOutside extent ⌝ }
+{
+    match extent {
+        Extent::Inside { low: _, high: _ } => false,
+        Extent::Outside => true,
+    }
+}
+
+// Some byte of some source pixel lies outside.
+fn source_outside(framelength: usize, source: Source) -> bool
+    requires { ⌜ RangedSource source ⌝ }
+    ensures { λ r. ⌜ r ≡ sourceOutside framelength source ⌝ }
+{
+    match source {
+        Source::Unselected(_) => false,
+        Source::Frame(r) => is_outside(rectangle::extent(framelength, r)),
+    }
+}
+
+// ---- all of them
+
 // The number that judges a BLT, or 0.
-fn judge_blt(registers: [u32; 17], framelength: usize) -> u32
-    ensures { λ r. ⌜ r ≡ judge BltKind registers framelength ⌝ }
+fn judge_blt(registers: [u32; REGISTERS], framelength: usize) -> u32
+    ensures { λ r. ⌜ r ≡ judge BltPrimitive registers framelength ⌝ }
 {
     let format = bad_format(registers);
     if format {
@@ -114,41 +152,27 @@ fn judge_blt(registers: [u32; 17], framelength: usize) -> u32
     if modes {
         return 24;
     }
+    let empty = no_area(registers);
+    if empty {
+        return 25;
+    }
     let b = blt::blt_of(registers);
-    let width = b.width;
-    if width == 0 {
-        return 25;
-    }
-    let height = b.height;
-    if height == 0 {
-        return 25;
-    }
-    let to = blt::outside(framelength, b, b.offset, b.stride);
+    let destination = b.destination;
+    let to = is_outside(rectangle::extent(framelength, destination));
     if to {
         return 27;
     }
-    source_refusal(registers, b, framelength)
-}
-
-// 28 of a BLT that no lower number refuses, or 0.
-fn source_refusal(registers: [u32; 17], b: Blt, framelength: usize) -> u32
-    requires { ⌜ (b ≡ bltOf registers) × (row23 registers ≡ false) × (row25 registers BltKind ≡ false) ⌝ }
-    ensures { λ r. ⌜ r ≡ (if row28 registers BltKind framelength then 28 else 0) ⌝ }
-{
-    let reads = b.reads;
-    if reads {
-        let from = blt::outside(framelength, b, b.srcoffset, b.srcstride);
-        if from {
-            return 28;
-        }
-        return 0;
+    let source = b.source;
+    let from = source_outside(framelength, source);
+    if from {
+        return 28;
     }
     0
 }
 
 // The number that judges a vector, or 0.
-fn judge_vector(registers: [u32; 17], framelength: usize) -> u32
-    ensures { λ r. ⌜ r ≡ judge VectorKind registers framelength ⌝ }
+fn judge_vector(registers: [u32; REGISTERS], framelength: usize) -> u32
+    ensures { λ r. ⌜ r ≡ judge VectorPrimitive registers framelength ⌝ }
 {
     let format = bad_format(registers);
     if format {
@@ -174,24 +198,12 @@ fn judge_vector(registers: [u32; 17], framelength: usize) -> u32
     0
 }
 
-// The lowest number of 23 to 28 that applies, or 0.
-pub fn refusal(kind: Kind, registers: [u32; 17], framelength: usize) -> u32
-    ensures { λ r. ⌜ r ≡ judge kind registers framelength ⌝ }
+// The number of the first of 23 to 28 that applies, or 0.
+pub fn refusal(primitive: Primitive, registers: [u32; REGISTERS], framelength: usize) -> u32
+    ensures { λ r. ⌜ r ≡ judge primitive registers framelength ⌝ }
 {
-    match kind {
-        Kind::Blt => judge_blt(registers, framelength),
-        Kind::Vector => judge_vector(registers, framelength),
-    }
-}
-
-// How many pixels a command has.
-pub fn pixel_count(kind: Kind, registers: [u32; 17]) -> usize
-    ensures { λ r. ⌜ (r ≡ pixelCount kind registers) × (r ≤ 16769025) ⌝ }
-{
-    let size = registers[WID_HEIGHT];
-    let width = fields::number(size, 27, 16);
-    match kind {
-        Kind::Blt => width * fields::number(size, 11, 0),
-        Kind::Vector => width,
+    match primitive {
+        Primitive::Blt => judge_blt(registers, framelength),
+        Primitive::Vector => judge_vector(registers, framelength),
     }
 }

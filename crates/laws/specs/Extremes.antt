@@ -1,25 +1,29 @@
--- Some byte of some pixel of a rectangle lies outside frame memory exactly when an extreme of the two axes does: the lowest
--- byte lies `fall` below the offset, the first byte of the highest pixel `rise` above it.
-use Prim.Native.Nat.{ℕ, _+_, _-_, _*_, _≤_, _<_}
-use mathlib.Core.Path.{_≡_, refl}
+-- The pixels of a rectangle lie between the extremes of its two axes: its lowest byte lies `fall` below the offset, the first
+-- byte of its highest pixel `rise` above it. So some byte lies outside frame memory exactly when an extreme does.
+use Prim.Native.Nat.{ℕ, _+_, _-_, _*_, _^_, _≤_, _<_}
+use mathlib.Core.Path.{_≡_, refl, ap, subst}
 use mathlib.Core.Bool.{Bool, true, false}
 use mathlib.Core.Logic.{⊎-elim}
 use native.Mathlib.Omega.{arith}
-use native.Mathlib.Nat.{mul-le-mul-right, add-le-add, zero-mul, mod-lt}
+use native.Mathlib.Nat.{mul-le-mul-right, add-le-add, zero-mul, mod-lt, add-mul}
 use borrow.Author.Tests.{ltb-true, ltb-false, lt-ltb, le-ltb, le-leb, lt-leb}
 use Rattle.model.specs.Choice.{_<?_, true-or-false, not-both, or-left, or-right}
-use Rattle.model.specs.Bounds.{added, taken, byteOutside, outside, firstByte}
-use Rattle.model.specs.BltPixel.{plus, minus, rectangleOutside}
-use Rattle.model.specs.declared.Blt.{Blt}
-use Rattle.laws.specs.Some.{some-at, some-none}
-use Rattle.laws.specs.Ranges.{Ranged}
-use Rattle.laws.specs.Numbers.{depth-least, column-is, row-is, row-lt, number-lt}
+use Rattle.model.specs.Limits.{frameMost}
+use Rattle.model.specs.Bounds.{added, taken, byteOutside, outside, firstByte, extent}
+use Rattle.model.specs.Rectangle.{ahead, behind, plusAt, minusAt, pixelByte, pixelsOf, plus, minus, rectangleOutside, rectangleExtent}
+use Rattle.model.specs.declared.Axis.{Axis}
+use Rattle.model.specs.declared.Extent.the-variants.{Inside, Outside}
+use Rattle.model.specs.declared.Rectangle.{Rectangle}
+use Rattle.laws.specs.Some.{some-at, some-none, least-is, greatest-is}
+use Rattle.laws.specs.Pixels.{depth-least}
+use Rattle.laws.specs.Ranges.{Ranged, InFrame, across-most}
+use Rattle.laws.specs.Numbers.{column-is, row-is, row-lt, number-lt}
 
-abbrev pub fall : Blt → ℕ → ℕ
-fall b stride = taken (b .left) ((b .width - 1) * b .depth) + taken (b .up) ((b .height - 1) * stride)
+abbrev pub fall : Rectangle → ℕ
+fall r = minusAt r (r .columns .count - 1) (r .rows .count - 1)
 
-abbrev pub rise : Blt → ℕ → ℕ
-rise b stride = added (b .left) ((b .width - 1) * b .depth) + added (b .up) ((b .height - 1) * stride)
+abbrev pub rise : Rectangle → ℕ
+rise r = plusAt r (r .columns .count - 1) (r .rows .count - 1)
 
 -- a byte of frame memory, and one below or above it
 byte-in : (size plus minus : ℕ) → minus ≤ plus → plus < size + minus → byteOutside size plus minus ≡ false
@@ -34,115 +38,185 @@ byte-above : (size plus minus : ℕ) → size + minus ≤ plus → byteOutside s
 unfolding byteOutside
 byte-above size plus minus h = or-right (plus <? minus) _ (le-leb (size + minus) plus h)
 
--- a step along an axis grows with its length
-added-le : (negative : Bool) {n m : ℕ} → n ≤ m → added negative n ≤ added negative m
-added-le true h = omega arith
-added-le false h = h
+module _ (a : Axis) where
+  -- more steps along an axis lead no less far
+  steps-le : {n m : ℕ} → n ≤ m → (ahead a n ≤ ahead a m) × (behind a n ≤ behind a m)
+  steps-le {n} {m} h = go (a .negative)
+    where
+      go : (negative : Bool)
+          → (added negative (n * a .step) ≤ added negative (m * a .step)) × (taken negative (n * a .step) ≤ taken negative (m * a .step))
+      go true = (omega arith, mul-le-mul-right (a .step) h)
+      go false = (mul-le-mul-right (a .step) h, omega arith)
 
-taken-le : (negative : Bool) {n m : ℕ} → n ≤ m → taken negative n ≤ taken negative m
-taken-le true h = h
-taken-le false h = omega arith
+  -- of n + 1 columns or rows, number `added negative n` lies highest and number `taken negative n` lowest
+  highest : (n : ℕ) → let x = added (a .negative) n in (x ≤ n) × (ahead a x ≡ ahead a n) × (behind a x ≡ 0)
+  highest n = go (a .negative)
+    where
+      go : (negative : Bool) → let x = added negative n in
+          (x ≤ n) × (added negative (x * a .step) ≡ added negative (n * a .step)) × (taken negative (x * a .step) ≡ 0)
+      go true = (omega arith, refl, zero-mul (a .step))
+      go false = (omega arith, refl, refl)
 
--- of n + 1 columns or rows, number `added negative n` is the highest and number `taken negative n` the lowest
-highest-added : (negative : Bool) (n d : ℕ) → added negative (added negative n * d) ≡ added negative (n * d)
-highest-added true n d = refl
-highest-added false n d = refl
+  lowest : (n : ℕ) → let x = taken (a .negative) n in (x ≤ n) × (ahead a x ≡ 0) × (behind a x ≡ behind a n)
+  lowest n = go (a .negative)
+    where
+      go : (negative : Bool) → let x = taken negative n in
+          (x ≤ n) × (added negative (x * a .step) ≡ 0) × (taken negative (x * a .step) ≡ taken negative (n * a .step))
+      go true = (omega arith, refl, refl)
+      go false = (omega arith, zero-mul (a .step), refl)
 
-highest-taken : (negative : Bool) (n d : ℕ) → taken negative (added negative n * d) ≡ 0
-highest-taken true n d = zero-mul d
-highest-taken false n d = refl
+-- some pixel with these steps ahead and behind
+abbrev Pixel : Rectangle → ℕ → ℕ → Type 0
+Pixel r p m = (k : ℕ) × (k < pixelsOf r) × (plus r k ≡ p) × (minus r k ≡ m)
 
-lowest-added : (negative : Bool) (n d : ℕ) → added negative (taken negative n * d) ≡ 0
-lowest-added true n d = refl
-lowest-added false n d = zero-mul d
+module _ (r : Rectangle) (ranged : Ranged r) where
+  pixel-at : {i j : ℕ} → i ≤ r .columns .count - 1 → j ≤ r .rows .count - 1 → Pixel r (plusAt r i j) (minusAt r i j)
+  pixel-at {i} {j} p q =
+      let w = r .columns .count in
+      let l : i < w = omega (arith, ranged .wide) in
+      let c = column-is w j i l in
+      let d = row-is w j i l in
+      (j * w + i, number-lt w (r .rows .count) j i l (omega (arith, ranged .high)), rw (c, d), rw (c, d))
 
-lowest-taken : (negative : Bool) (n d : ℕ) → taken negative (taken negative n * d) ≡ taken negative (n * d)
-lowest-taken true n d = refl
-lowest-taken false n d = refl
+  highest-pixel : Pixel r (rise r) 0
+  highest-pixel =
+      let x = highest (r .columns) (r .columns .count - 1) in
+      let y = highest (r .rows) (r .rows .count - 1) in
+      rw (x .1, y .1, x .2, y .2) at (pixel-at (x .0) (y .0))
 
-highest-lt : (negative : Bool) (n : ℕ) → 0 < n → added negative (n - 1) < n
-highest-lt true n h = h
-highest-lt false n h = omega arith
+  lowest-pixel : Pixel r 0 (fall r)
+  lowest-pixel =
+      let x = lowest (r .columns) (r .columns .count - 1) in
+      let y = lowest (r .rows) (r .rows .count - 1) in
+      rw (x .1, y .1, x .2, y .2) at (pixel-at (x .0) (y .0))
 
-lowest-lt : (negative : Bool) (n : ℕ) → 0 < n → taken negative (n - 1) < n
-lowest-lt true n h = omega arith
-lowest-lt false n h = h
+  -- every pixel lies between the two
+  most : (i j : ℕ) → i < r .columns .count → j < r .rows .count → (plusAt r i j ≤ rise r) × (minusAt r i j ≤ fall r)
+  most i j p q =
+      let x = steps-le (r .columns) {n = i} {m = r .columns .count - 1} (omega arith) in
+      let y = steps-le (r .rows) {n = j} {m = r .rows .count - 1} (omega arith) in
+      (add-le-add (x .0) (y .0), add-le-add (x .1) (y .1))
 
-module _ (size : ℕ) (b : Blt) (offset stride : ℕ) (r : Ranged b offset stride) where
-  -- every pixel lies between the extremes
-  plus-most : (k : ℕ) → k < b .width * b .height → plus b stride k ≤ rise b stride
-  plus-most k l =
-      add-le-add
-      (added-le (b .left) (mul-le-mul-right (b .depth) (omega (arith, mod-lt k (r .wide)))))
-      (added-le (b .up) (mul-le-mul-right stride (omega (arith, row-lt (b .width) (b .height) k (r .wide) l))))
+  all-most : (k : ℕ) → k < pixelsOf r → (plus r k ≤ rise r) × (minus r k ≤ fall r)
+  all-most k l = most _ _ (mod-lt k (ranged .wide)) (row-lt (r .columns .count) (r .rows .count) k (ranged .wide) l)
 
-  minus-most : (k : ℕ) → k < b .width * b .height → minus b stride k ≤ fall b stride
-  minus-most k l =
-      add-le-add
-      (taken-le (b .left) (mul-le-mul-right (b .depth) (omega (arith, mod-lt k (r .wide)))))
-      (taken-le (b .up) (mul-le-mul-right stride (omega (arith, row-lt (b .width) (b .height) k (r .wide) l))))
+  module _ (size : ℕ) where
+    low-out : r .offset < fall r → rectangleOutside size r ≡ true
+    unfolding outside
+    low-out h =
+        let x = lowest-pixel in
+        some-at (pixelsOf r) _ (x .0) (x .1)
+        (some-at (r .depth) _ 0 (depth-least (ranged .deep))
+        (byte-below size (r .offset + plus r (x .0) + 0) (minus r (x .0)) (omega (arith, x .2, x .3))))
 
-  pub all-in : fall b stride ≤ offset → offset + rise b stride + b .depth ≤ size → rectangleOutside size b offset stride ≡ false
-  unfolding outside
-  all-in low high =
-      some-none (b .width * b .height) _
-      (λ k l.
-      some-none (b .depth) _
-      (λ i m.
-      byte-in size (offset + plus b stride k + i) (minus b stride k)
-      (omega (arith, minus-most k l)) (omega (arith, plus-most k l))))
+    high-out : size ≤ r .offset + rise r + (r .depth - 1) → rectangleOutside size r ≡ true
+    unfolding outside
+    high-out h =
+        let x = highest-pixel in
+        let d = depth-least (ranged .deep) in
+        some-at (pixelsOf r) _ (x .0) (x .1)
+        (some-at (r .depth) _ (r .depth - 1) (omega arith)
+        (byte-above size (r .offset + plus r (x .0) + (r .depth - 1)) (minus r (x .0)) (omega (arith, x .2, x .3))))
 
-  pub low-out : offset < fall b stride → rectangleOutside size b offset stride ≡ true
-  unfolding outside
-  low-out h =
-      let i = taken (b .left) (b .width - 1) in
-      let j = taken (b .up) (b .height - 1) in
-      let p = lowest-lt (b .left) (b .width) (r .wide) in
-      some-at (b .width * b .height) _ (j * b .width + i) (number-lt (b .width) (b .height) j i p (lowest-lt (b .up) (b .height) (r .high)))
-      (some-at (b .depth) _ 0 (depth-least (r .deep))
-      (rw (
-        column-is (b .width) j i p,
-        row-is (b .width) j i p,
-        lowest-added (b .left) (b .width - 1) (b .depth),
-        lowest-added (b .up) (b .height - 1) stride,
-        lowest-taken (b .left) (b .width - 1) (b .depth),
-        lowest-taken (b .up) (b .height - 1) stride,
-      )
-      (byte-below size (offset + (0 + 0) + 0) (fall b stride) (omega arith))))
+    all-in : fall r ≤ r .offset → r .offset + rise r + (r .depth - 1) < size → rectangleOutside size r ≡ false
+    unfolding outside
+    all-in low high =
+        some-none (pixelsOf r) _
+        (λ k l.
+        let m = all-most k l in
+        some-none (r .depth) _
+        (λ i d. byte-in size (r .offset + plus r k + i) (minus r k) (omega arith) (omega arith)))
 
-  pub high-out : size < offset + rise b stride + b .depth → rectangleOutside size b offset stride ≡ true
-  unfolding outside
-  high-out h =
-      let i = added (b .left) (b .width - 1) in
-      let j = added (b .up) (b .height - 1) in
-      let p = highest-lt (b .left) (b .width) (r .wide) in
-      let d = depth-least (r .deep) in
-      some-at (b .width * b .height) _ (j * b .width + i) (number-lt (b .width) (b .height) j i p (highest-lt (b .up) (b .height) (r .high)))
-      (some-at (b .depth) _ (b .depth - 1) (omega arith)
-      (rw (
-        column-is (b .width) j i p,
-        row-is (b .width) j i p,
-        highest-added (b .left) (b .width - 1) (b .depth),
-        highest-added (b .up) (b .height - 1) stride,
-        highest-taken (b .left) (b .width - 1) (b .depth),
-        highest-taken (b .up) (b .height - 1) stride,
-      )
-      (byte-above size (offset + rise b stride + (b .depth - 1)) (0 + 0) (omega arith))))
-
-  -- where judging accepts, the extremes and so every pixel lie in frame memory
-  module _ (inside : rectangleOutside size b offset stride ≡ false) where
-    in-low : fall b stride ≤ offset
-    in-low =
+    -- so where it lies in frame memory, the extremes do
+    in-low : rectangleOutside size r ≡ false → fall r ≤ r .offset
+    in-low inside =
         ⊎-elim (λ e. absurd (not-both _ (low-out (ltb-true _ _ e)) inside)) (λ e. ltb-false _ _ e)
-        (true-or-false (offset <? fall b stride))
+        (true-or-false (r .offset <? fall r))
 
-    in-high : offset + rise b stride + b .depth ≤ size
-    in-high =
-        ⊎-elim (λ e. absurd (not-both _ (high-out (ltb-true _ _ e)) inside)) (λ e. ltb-false _ _ e)
-        (true-or-false (size <? offset + rise b stride + b .depth))
+    in-high : rectangleOutside size r ≡ false → r .offset + rise r + (r .depth - 1) < size
+    in-high inside =
+        let top = r .offset + rise r + (r .depth - 1) in
+        ⊎-elim (λ e. ltb-true _ _ e) (λ e. absurd (not-both _ (high-out (ltb-false _ _ e)) inside)) (true-or-false (top <? size))
 
-    pub pixel-low : (k : ℕ) → k < b .width * b .height → minus b stride k ≤ offset + plus b stride k
-    pixel-low k l = omega (arith, minus-most k l, in-low)
+    -- ---- its extent
 
-    pub pixel-in : (k : ℕ) → k < b .width * b .height → firstByte offset (plus b stride k) (minus b stride k) + b .depth ≤ size
-    pixel-in k l = omega (arith, pixel-low k l, plus-most k l, in-high)
+    pub extent-below : r .offset < fall r → rectangleExtent size r ≡ Outside
+    unfolding extent
+    extent-below h = rw (low-out h)
+
+    pub extent-above : size ≤ r .offset + rise r + (r .depth - 1) → rectangleExtent size r ≡ Outside
+    unfolding extent
+    extent-above h = rw (high-out h)
+
+    pub extent-in : fall r ≤ r .offset → r .offset + rise r + (r .depth - 1) < size
+        → rectangleExtent size r ≡ Inside (r .offset - fall r) (r .offset + rise r + (r .depth - 1))
+    unfolding extent
+    extent-in low high =
+        let at : ℕ → ℕ = λ k. firstByte (r .offset) (plus r k) (minus r k) in
+        let x = lowest-pixel in
+        let y = highest-pixel in
+        rw (
+          all-in low high,
+          least-is at (r .offset - fall r) (pixelsOf r - 1) (x .0) (omega (arith, x .1)) (omega (arith, x .2, x .3))
+              (λ k l. let m = all-most k (omega (arith, x .1)) in omega arith),
+          greatest-is at (r .offset + rise r) (pixelsOf r - 1) (y .0) (omega (arith, y .1)) (omega (arith, y .2, y .3))
+              (λ k l. let m = all-most k (omega (arith, y .1)) in omega arith),
+        )
+
+-- ---- a pixel of a rectangle that lies in frame memory
+
+-- column i of row j is a pixel and its first byte is no byte below 0
+pub record Reached (r : Rectangle) (i j : ℕ) : Type 0 where
+  pub ranged : Ranged r
+  pub column : i < r .columns .count
+  pub row : j < r .rows .count
+  pub low : minusAt r i j ≤ r .offset + plusAt r i j
+
+-- and all of its bytes lie in a frame memory of `size` bytes
+pub record Within (size : ℕ) (r : Rectangle) (i j : ℕ) : Type 0 where
+  pub reached : Reached r i j
+  pub bytes-in : pixelByte r i j + r .depth ≤ size
+
+pub within : {size : ℕ} {r : Rectangle} → InFrame size r → {i j : ℕ} → i < r .columns .count → j < r .rows .count → Within size r i j
+unfolding pixelByte
+within {size} {r} f {i} {j} p q =
+    let m = most r (f .ranged) i j p q in
+    let low = in-low r (f .ranged) size (f .inside) in
+    let high = in-high r (f .ranged) size (f .inside) in
+    record {
+      reached = record { ranged = f .ranged; column = p; row = q; low = omega arith };
+      bytes-in = omega (arith, depth-least (f .ranged .deep));
+    }
+
+-- m columns on in the same row, further or back
+pub byte-on : {r : Rectangle} {a : Axis} → r .columns ≡ a → {i j : ℕ} (m : ℕ) → Reached r i j → Reached r (i + m) j
+    → pixelByte r (i + m) j + behind a m ≡ pixelByte r i j + ahead a m
+unfolding pixelByte
+byte-on {r} columns {i} {j} m x y =
+    subst (λ (a : Axis). pixelByte r (i + m) j + behind a m ≡ pixelByte r i j + ahead a m) columns
+    (let s = add-mul i m (r .columns .step) in
+    ⊎-elim
+    (λ e. let p = rw e at (x .low) in let q = rw e at (y .low) in rw e (omega arith))
+    (λ e. let p = rw e at (x .low) in let q = rw e at (y .low) in rw e (omega arith))
+    (true-or-false (r .columns .negative)))
+
+-- a walk of m steps along an axis from byte `start` whose sums fit
+pub record Along (a : Axis) (start m : ℕ) : Type 0 where
+  pub near : start < 2 ^ 32
+  pub steps-near : m * a .step < 2 ^ 32
+  pub back : behind a m ≤ start + ahead a m
+
+-- it leads from one column of a row to another
+module _ {size : ℕ} (small : size ≤ frameMost) {r : Rectangle} {a : Axis} (columns : r .columns ≡ a) {i j : ℕ} (m : ℕ)
+    (p : Within size r i j) (q : Within size r (i + m) j) {start : ℕ} (starts : start ≡ pixelByte r i j) where
+  pub along : Along a start m
+  along =
+      let most = across-most (p .reached .ranged) m (omega (arith, q .reached .column)) in
+      record {
+        near = omega (arith, p .bytes-in);
+        steps-near = omega (arith, ap (λ (x : Axis). m * x .step) columns);
+        back = omega (arith, byte-on columns m (p .reached) (q .reached));
+      }
+
+  pub along-at : {at : ℕ} → at ≡ start + ahead a m - behind a m → at ≡ pixelByte r (i + m) j
+  along-at e = omega (arith, byte-on columns m (p .reached) (q .reached))

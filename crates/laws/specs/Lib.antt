@@ -11,6 +11,7 @@ pub mod Ranges
 pub mod Spans
 pub mod Signs
 pub mod Walks
+pub mod ClosedForm
 pub mod Numbers
 pub mod Extremes
 pub mod Rows

@@ -6,9 +6,9 @@ use mathlib.Core.Logic.{_⊎_, inl, inr, ⊎-elim}
 use native.Mathlib.Omega.{arith}
 use native.Mathlib.Nat.{mod-lt, mod-eq-of-lt, mod-eq-sub-mod, add-mod-right}
 use lib.Dec.{ltb, leb}
-use borrow.Author.Tests.{ltb-true, ltb-false, leb-true, leb-false}
-use Rattle.model.specs.Choice.{if_then_else_}
-use Rattle.model.specs.Ring.{distance, waiting, publishRefusal}
+use borrow.Author.Tests.{ltb-true, ltb-false, leb-true, leb-false, not-false}
+use Rattle.model.specs.Refusals.{NoRule}
+use Rattle.model.specs.Ring.{distance, waiting, positionRules}
 
 pub distance-ahead : (size from to : ℕ) → from ≤ to → to < size → distance size from to ≡ to - from
 unfolding distance
@@ -81,11 +81,8 @@ distance-next size o r k ho hr h =
     o-next : DistanceCases size o ((r + k) % size)
     o-next = distance-cases size o ((r + k) % size) ho (mod-lt (r + k) (omega arith))
 
--- an accepted position is the ring's
-pub accepted-in : (size read write p : ℕ) → publishRefusal size read write p ≡ 0 → p < size
-unfolding publishRefusal
-accepted-in size read write p = go (ltb p size) (leb (waiting size read write) (distance size read p)) refl
-  where
-    go : (a b : Bool) → ltb p size ≡ a → _≡_ {A = ℕ} (if a then (if b then 0 else 6) else 5) 0 → p < size
-    go true b e z = ltb-true p size e
-    go false b e z = absurd (omega arith)
+-- a position that publishing accepts is the ring's, and leaves no fewer words waiting
+pub accepted-in : (size read write p : ℕ) → NoRule (positionRules size read write p)
+    → (p < size) × (waiting size read write ≤ waiting size read p)
+unfolding waiting
+accepted-in size read write p h = (ltb-true _ _ (not-false _ (h .0)), leb-true _ _ (not-false _ (h .1 .0)))

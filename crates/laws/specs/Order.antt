@@ -1,6 +1,6 @@
 -- Pixels in order: n of them from number k on, one after the other.
-use Prim.Native.Nat.{ℕ, zero, suc, _+_}
-use mathlib.Core.Path.{_≡_, refl, _∙_}
+use Prim.Native.Nat.{ℕ, zero, suc, _+_, _-_, _≤_, _<_}
+use mathlib.Core.Path.{_≡_, refl, sym, ap, _∙_}
 use mathlib.Core.List.{List}
 use native.Mathlib.Omega.{arith}
 use lib.ListN.{length}
@@ -9,7 +9,7 @@ use Rattle.model.specs.VectorPixel.{drawVector}
 use Rattle.model.specs.Unit.{drawPixel}
 use Rattle.model.specs.declared.Blt.{Blt}
 use Rattle.model.specs.declared.Vector.{Vector}
-use Rattle.model.specs.declared.Kind.{Kind}
+use Rattle.model.specs.declared.Primitive.{Primitive}
 
 unfoldable pub inOrder : (ℕ → List ℕ → List ℕ) → ℕ → ℕ → List ℕ → List ℕ
 inOrder draw k zero frame = frame
@@ -21,8 +21,8 @@ bltPixels b = inOrder (drawBlt b)
 abbrev pub vectorPixels : Vector → ℕ → ℕ → List ℕ → List ℕ
 vectorPixels v = inOrder (drawVector v)
 
-abbrev pub pixels : Kind → List ℕ → ℕ → ℕ → List ℕ → List ℕ
-pixels kind registers = inOrder (drawPixel kind registers)
+abbrev pub pixels : Primitive → List ℕ → ℕ → ℕ → List ℕ → List ℕ
+pixels primitive registers = inOrder (drawPixel primitive registers)
 
 module _ (draw : ℕ → List ℕ → List ℕ) where
   pub order-zero : (k : ℕ) (frame : List ℕ) → inOrder draw k 0 frame ≡ frame
@@ -47,3 +47,86 @@ module _ (draw : ℕ → List ℕ → List ℕ) where
   unfolding inOrder
   order-length h zero k frame = refl
   order-length h (suc n) k frame = order-length h n (k + 1) (draw k frame) ∙ h k frame
+
+-- pixels drawn in a memory that shows another one: `show` of what the one holds is what the other holds, as long as the one
+-- stays what it has to be
+pub order-through : (draw other : ℕ → List ℕ → List ℕ) (show : List ℕ → List ℕ) (Kept : List ℕ → Type 0) (n k i : ℕ)
+    → ((m : ℕ) → m < n → (frame : List ℕ) → Kept frame
+    → (draw (k + m) (show frame) ≡ show (other (i + m) frame)) × Kept (other (i + m) frame))
+    → (frame : List ℕ) → Kept frame → inOrder draw k n (show frame) ≡ show (inOrder other i n frame)
+unfolding inOrder
+order-through draw other show Kept zero k i h frame p = refl
+order-through draw other show Kept (suc n) k i h frame p =
+    let a : k + 0 ≡ k = omega arith in
+    let b : i + 0 ≡ i = omega arith in
+    let one = rw (a, b) at (h 0 (omega arith) frame p) in
+    rw (one .0)
+    (order-through draw other show Kept n (k + 1) (i + 1)
+    (λ m l.
+    let c : k + 1 + m ≡ k + suc m = omega arith in
+    let d : i + 1 + m ≡ i + suc m = omega arith in
+    rw (c, d) (h (suc m) (omega arith)))
+    (other i frame) (one .1))
+
+-- two ways to draw that agree on these pixels
+pub order-same : (draw other : ℕ → List ℕ → List ℕ) (n k i : ℕ)
+    → ((m : ℕ) → m < n → (frame : List ℕ) → draw (k + m) frame ≡ other (i + m) frame)
+    → (frame : List ℕ) → inOrder draw k n frame ≡ inOrder other i n frame
+order-same draw other n k i h frame =
+    order-through draw other (λ frame. frame) (λ frame. Unit {0}) n k i (λ m l frame p. (h m l frame, tt)) frame tt
+
+-- pixels that may change places are drawn from the last to the first with the same end
+pub order-reverse : (draw : ℕ → List ℕ → List ℕ) (n : ℕ)
+    → ((m k : ℕ) → m < k → k < n → (frame : List ℕ) → draw m (draw k frame) ≡ draw k (draw m frame))
+    → (frame : List ℕ) → inOrder (λ m. draw (n - 1 - m)) 0 n frame ≡ inOrder draw 0 n frame
+unfolding inOrder
+order-reverse draw zero h frame = refl
+order-reverse draw (suc n) h frame =
+    let a : suc n - 1 - 0 ≡ n = omega arith in
+    let b : n + 1 ≡ suc n = omega arith in
+    let c : 0 + n ≡ n = omega arith in
+    rw a
+    (order-same _ (λ m. draw (n - 1 - m)) n 1 0
+    (λ m l frame. ap (λ (x : ℕ). draw x frame) (let e : suc n - 1 - (0 + 1 + m) ≡ n - 1 - (0 + m) = omega arith in e))
+    (draw n frame)
+    ∙ order-reverse draw n (λ m k l p. h m k l (omega arith)) (draw n frame)
+    ∙ order-through draw draw (draw n) (λ frame. Unit {0}) n 0 0 (λ m l frame p. (h (0 + m) n (omega arith) (omega arith) frame, tt)) frame tt
+    ∙ (rw (b, c) at (order-add draw n 0 1 frame)))
+
+-- ---- loops
+
+-- in the middle of a loop that draws n pixels from number k on: m are drawn, and the rest remain to draw
+pub record Remain (draw : ℕ → List ℕ → List ℕ) (k n : ℕ) (first : List ℕ) (m : ℕ) (frame : List ℕ) : Type 0 where
+  pub drawn : m ≤ n
+  pub same : length frame ≡ length first
+  pub rest : inOrder draw k n first ≡ inOrder draw (k + m) (n - m) frame
+
+module _ {draw : ℕ → List ℕ → List ℕ} {k n : ℕ} where
+  pub remain-all : (frame : List ℕ) → Remain draw k n frame 0 frame
+  remain-all frame =
+      let e : k + 0 ≡ k = omega arith in
+      let z : n - 0 ≡ n = omega arith in
+      record { drawn = omega arith; same = refl; rest = rw (e, z) }
+
+  pub remain-none : {first : List ℕ} {m : ℕ} {frame : List ℕ} → Remain draw k n first m frame → n ≤ m → frame ≡ inOrder draw k n first
+  remain-none {first} {m} {frame} r l =
+      let z : n - m ≡ 0 = omega arith in
+      sym (r .rest ∙ rw z (order-zero draw (k + m) frame))
+
+  module _ (keeps : (k : ℕ) (frame : List ℕ) → length (draw k frame) ≡ length frame)
+      {first : List ℕ} {m : ℕ} {frame : List ℕ} (r : Remain draw k n first m frame) where
+    -- c pixels more
+    pub remain-add : (c : ℕ) {next : List ℕ} → m + c ≤ n → next ≡ inOrder draw (k + m) c frame → Remain draw k n first (m + c) next
+    remain-add c l e =
+        let d : n - m ≡ c + (n - (m + c)) = omega arith in
+        let f : k + (m + c) ≡ k + m + c = omega arith in
+        record {
+          drawn = l;
+          same = rw e (order-length draw keeps c (k + m) frame ∙ r .same);
+          rest = rw (e, f) (r .rest ∙ rw d (sym (order-add draw c (k + m) (n - (m + c)) frame)));
+        }
+
+    -- one more
+    pub remain-next : {next : List ℕ} → m < n → next ≡ draw (k + m) frame → Remain draw k n first (m + 1) next
+    unfolding inOrder
+    remain-next l e = remain-add 1 (omega arith) e

@@ -19,6 +19,11 @@ depth-last Depth.one p q = absurd (p refl)
 depth-last Depth.two p q = absurd (q refl)
 depth-last Depth.four p q = refl
 
+pub depth-least : {n : ℕ} → Depth n → 0 < n
+depth-least Depth.one = omega arith
+depth-least Depth.two = omega arith
+depth-least Depth.four = omega arith
+
 pub depth-most : {n : ℕ} → Depth n → n ≤ 4
 depth-most Depth.one = omega arith
 depth-most Depth.two = omega arith

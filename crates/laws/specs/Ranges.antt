@@ -1,49 +1,77 @@
--- The ranges that the registers' fields give, and what judging accepts, as facts on a decoded BLT or vector.
-use Prim.Native.Nat.{ℕ, _<_}
-use mathlib.Core.Path.{_≡_, refl}
+-- The ranges that the registers' fields give, and what judging accepts, as facts on rectangles, BLTs and vectors.
+use Prim.Native.Nat.{ℕ, _*_, _≤_, _<_}
+use mathlib.Core.Path.{_≡_, refl, subst}
 use mathlib.Core.Bool.{Bool, true, false, _||_}
 use mathlib.Core.List.{List}
 use native.Mathlib.Omega.{arith}
-use native.Mathlib.Nat.{mod-lt}
+use native.Mathlib.Nat.{mod-lt, mul-le-mul}
 use lib.IntN.{pos}
 use lib.Signed.{ltZ}
-use Rattle.model.specs.Choice.{_=?_, if_then_else_, not-both, both, neither}
-use Rattle.model.specs.Registers.{formatCode, width, height, vectorLength}
+use Rattle.model.specs.Choice.{_=?_, if_then_else_, not-both, neither, nonzero, if-both}
+use Rattle.model.specs.Refusals.{NoRule, positive, none-first}
+use Rattle.model.specs.Limits.{frameMost, sideMost}
+use Rattle.model.specs.Registers.{formatCode, patternMode, sourceOffset, sourceStride, width, height, vectorLength, sourceSelect}
 use Rattle.model.specs.Formats.{Depth, formatOf, depthOf}
-use Rattle.model.specs.BltPixel.{bltOf, rectangleOutside}
+use Rattle.model.specs.Rectangle.{pixelsOf, rectangleOutside}
+use Rattle.model.specs.BltPixel.{rectangleOf, sourceOf, patternOf, bltOf, sourceOutside}
 use Rattle.model.specs.VectorPixel.{vectorOf, vectorOutside}
-use Rattle.model.specs.Judging.{judge, refusedFormat, row23, row25, row26}
+use Rattle.model.specs.Judging.{judge, judgeRules, refusedFormat, row23, row25, row26}
 use Rattle.model.specs.declared.Blt.{Blt}
-use Rattle.model.specs.declared.Vector.{Vector}
 use Rattle.model.specs.declared.Format.the-variants.{Bytes, Refused}
-use Rattle.model.specs.declared.Kind.the-variants.{Blt as BltKind, Vector as VectorKind}
-use Rattle.laws.specs.Fit.{positive, judged-rows}
+use Rattle.model.specs.declared.Pattern.{Pattern}
+use Rattle.model.specs.declared.Pattern.the-variants.{Solid, Mono}
+use Rattle.model.specs.declared.Primitive.{Primitive}
+use Rattle.model.specs.declared.Primitive.the-variants.{Blt as BltPrimitive, Vector as VectorPrimitive}
+use Rattle.model.specs.declared.Rectangle.{Rectangle}
+use Rattle.model.specs.declared.Source.{Source}
+use Rattle.model.specs.declared.Source.the-variants.{Unselected, Frame}
+use Rattle.model.specs.declared.Vector.{Vector}
+use Rattle.laws.specs.Pixels.{depth-most}
 
--- a rectangle with this offset and stride
-pub record Ranged (b : Blt) (offset stride : ℕ) : Type 0 where
-  pub deep : Depth (b .depth)
-  pub wide : 0 < b .width
-  pub wide-most : b .width < 4096
-  pub high : 0 < b .height
-  pub high-most : b .height < 4096
-  pub offset-most : offset < 16_777_216
-  pub stride-most : stride < 65_536
+-- ---- what is in range
+
+-- a rectangle whose fields are in range
+pub record Ranged (r : Rectangle) : Type 0 where
+  pub deep : Depth (r .depth)
+  pub wide : 0 < r .columns .count
+  pub wide-most : r .columns .count ≤ sideMost
+  pub pixels-on : r .columns .step ≡ r .depth
+  pub high : 0 < r .rows .count
+  pub high-most : r .rows .count ≤ sideMost
+  pub stride-most : r .rows .step < 65_536
+  pub offset-most : r .offset < frameMost
+
+-- and that lies in a frame memory of `size` bytes
+pub record InFrame (size : ℕ) (r : Rectangle) : Type 0 where
+  pub ranged : Ranged r
+  pub inside : rectangleOutside size r ≡ false
+
+-- a rectangle of a destination's depth, size and directions
+pub record Matches (d r : Rectangle) : Type 0 where
+  pub depth-same : r .depth ≡ d .depth
+  pub columns-same : r .columns ≡ d .columns
+  pub rows-same : (r .rows .count ≡ d .rows .count) × (r .rows .negative ≡ d .rows .negative)
+
+abbrev pub FitSource : ℕ → Rectangle → Source → Type 0
+FitSource size d (Unselected color) = Unit {0}
+FitSource size d (Frame r) = InFrame size r × Matches d r
+
+abbrev pub FitPattern : Pattern → Type 0
+FitPattern (Solid color) = Unit {0}
+FitPattern (Mono p) = (p .row < 8) × (p .column < 8)
 
 -- a BLT that judging accepts for a frame memory of `size` bytes
 pub record FitBlt (size : ℕ) (b : Blt) : Type 0 where
-  pub to : Ranged b (b .offset) (b .stride)
-  pub from : Ranged b (b .srcoffset) (b .srcstride)
-  pub inside : rectangleOutside size b (b .offset) (b .stride) ≡ false
-  pub source-inside : b .reads ≡ true → rectangleOutside size b (b .srcoffset) (b .srcstride) ≡ false
-  pub row-most : b .row < 8
-  pub column-most : b .column < 8
+  pub destination-fit : InFrame size (b .destination)
+  pub source-fit : FitSource size (b .destination) (b .source)
+  pub pattern-fit : FitPattern (b .pattern)
 
 -- a vector whose fields are in range and whose terms 26 accepts
 pub record RangedVector (v : Vector) : Type 0 where
   pub deep : Depth (v .depth)
   pub long : 0 < v .length
   pub long-most : v .length < 4096
-  pub offset-most : v .offset < 16_777_216
+  pub offset-most : v .offset < frameMost
   pub stride-most : v .stride < 65_536
   pub axial-rises : ltZ (v .axial) (pos 0) ≡ false
   pub diagonal-falls : ltZ (pos 0) (v .diagonal) ≡ false
@@ -51,6 +79,19 @@ pub record RangedVector (v : Vector) : Type 0 where
 pub record FitVector (size : ℕ) (v : Vector) : Type 0 where
   pub ranged : RangedVector v
   pub inside : vectorOutside size v ≡ false
+
+-- what the ranges leave of products
+module _ {r : Rectangle} (ranged : Ranged r) where
+  pub across-most : (i : ℕ) → i ≤ r .columns .count → i * r .columns .step ≤ sideMost * 4
+  across-most i l =
+      let d = depth-most (ranged .deep) in
+      mul-le-mul {n₂ = sideMost} {m₂ = 4} (omega (arith, ranged .wide-most)) (omega (arith, ranged .pixels-on))
+
+  pub along-most : (j : ℕ) → j < r .rows .count → j * r .rows .step ≤ sideMost * 65_535
+  along-most j l = mul-le-mul {n₂ = sideMost} {m₂ = 65_535} (omega (arith, ranged .high-most)) (omega (arith, ranged .stride-most))
+
+  pub area-most : pixelsOf r ≤ sideMost * sideMost
+  area-most = mul-le-mul (ranged .wide-most) (ranged .high-most)
 
 -- ---- what the registers give
 
@@ -65,46 +106,49 @@ format-depth code = go (code =? 0) (code =? 4 || code =? 5 || code =? 6) (code =
     go false false true e = Depth.four
     go false false false e = absurd (not-both true refl e)
 
-accepted-depth : (registers : List ℕ) → row23 registers ≡ false
-    → Depth (depthOf (formatOf (formatCode registers)))
-accepted-depth registers e = format-depth (formatCode registers) (neither (refusedFormat (formatOf (formatCode registers))) _ e .0)
+module _ (registers : List ℕ) (no-23 : row23 registers ≡ false) where
+  accepted-depth : Depth (depthOf (formatOf (formatCode registers)))
+  accepted-depth = format-depth (formatCode registers) (neither (refusedFormat (formatOf (formatCode registers))) _ no-23 .0)
 
--- once 23 and 25 do not apply, both rectangles of a BLT are in range
-module _ (registers : List ℕ) where
-  ranged : (offset stride : ℕ) → row23 registers ≡ false → row25 registers BltKind ≡ false → offset < 16_777_216 → stride < 65_536
-      → Ranged (bltOf registers) offset stride
-  unfolding bltOf
-  ranged offset stride e f o s =
-      let n = neither (width registers =? 0) (height registers =? 0) f in
-      record {
-        deep = accepted-depth registers e;
-        wide = positive (width registers) (n .0);
-        wide-most = mod-lt _ (omega arith);
-        high = positive (height registers) (n .1);
-        high-most = mod-lt _ (omega arith);
-        offset-most = o;
-        stride-most = s;
-      }
+  -- once 23 and 25 do not apply, the rectangles of a BLT are in range
+  module _ (no-25 : row25 registers BltPrimitive ≡ false) where
+    ranged : (offset stride : ℕ) → offset < frameMost → stride < 65_536 → Ranged (rectangleOf registers offset stride)
+    unfolding rectangleOf
+    ranged offset stride o s =
+        let n = neither (width registers =? 0) (height registers =? 0) no-25 in
+        record {
+          deep = accepted-depth;
+          wide = nonzero (width registers) (n .0);
+          wide-most = omega arith;
+          pixels-on = refl;
+          high = nonzero (height registers) (n .1);
+          high-most = omega arith;
+          stride-most = s;
+          offset-most = o;
+        }
 
-  pub ranged-to : row23 registers ≡ false → row25 registers BltKind ≡ false
-      → Ranged (bltOf registers) (bltOf registers .offset) (bltOf registers .stride)
-  unfolding bltOf
-  ranged-to e f = ranged _ _ e f (mod-lt _ (omega arith)) (mod-lt _ (omega arith))
+    pub ranged-destination : Ranged (bltOf registers .destination)
+    unfolding bltOf
+    ranged-destination = ranged _ _ (mod-lt _ (omega arith)) (mod-lt _ (omega arith))
 
-  pub ranged-from : row23 registers ≡ false → row25 registers BltKind ≡ false
-      → Ranged (bltOf registers) (bltOf registers .srcoffset) (bltOf registers .srcstride)
-  unfolding bltOf
-  ranged-from e f = ranged _ _ e f (mod-lt _ (omega arith)) (mod-lt _ (omega arith))
+    from-frame : Ranged (rectangleOf registers (sourceOffset registers) (sourceStride registers))
+    from-frame = ranged _ _ (mod-lt _ (omega arith)) (mod-lt _ (omega arith))
+
+    pub ranged-source : {r : Rectangle} → bltOf registers .source ≡ Frame r → Ranged r
+    unfolding bltOf sourceOf
+    ranged-source {r} =
+        if-both (λ s. s ≡ Frame r → Ranged r) (sourceSelect registers =? 1)
+        (λ e. let p : rectangleOf registers (sourceOffset registers) (sourceStride registers) ≡ r = cc in subst Ranged p from-frame)
+        (λ e. let z : _≡_ {A = ℕ} 0 1 = cc in absurd (omega arith))
 
   -- and once 26 does not apply either, a vector is
-  pub ranged-vector : row23 registers ≡ false → row25 registers VectorKind ≡ false → row26 registers VectorKind ≡ false
-      → RangedVector (vectorOf registers)
+  pub ranged-vector : row25 registers VectorPrimitive ≡ false → row26 registers VectorPrimitive ≡ false → RangedVector (vectorOf registers)
   unfolding vectorOf
-  ranged-vector e f g =
-      let t = neither (ltZ (vectorOf registers .axial) (pos 0)) _ g in
+  ranged-vector no-25 no-26 =
+      let t = neither (ltZ (vectorOf registers .axial) (pos 0)) _ no-26 in
       record {
-        deep = accepted-depth registers e;
-        long = positive (vectorLength registers) f;
+        deep = accepted-depth;
+        long = nonzero (vectorLength registers) no-25;
         long-most = mod-lt _ (omega arith);
         offset-most = mod-lt _ (omega arith);
         stride-most = mod-lt _ (omega arith);
@@ -113,20 +157,31 @@ module _ (registers : List ℕ) where
       }
 
 -- what judging accepts
-pub fit-blt : (registers : List ℕ) (size : ℕ) → judge BltKind registers size ≡ 0 → FitBlt size (bltOf registers)
-unfolding bltOf
-fit-blt registers size e =
-    let r = judged-rows BltKind registers size e in
-    record {
-      to = ranged-to registers (r .no-23) (r .no-25);
-      from = ranged-from registers (r .no-23) (r .no-25);
-      inside = r .no-27;
-      source-inside = λ s. rw s at (r .no-28);
-      row-most = mod-lt _ (omega arith);
-      column-most = mod-lt _ (omega arith);
-    }
+judged : (primitive : Primitive) (registers : List ℕ) (size : ℕ) → judge primitive registers size ≡ 0
+    → NoRule (judgeRules primitive registers size)
+unfolding judge positive
+judged primitive registers size = none-first (judgeRules primitive registers size) refl
 
-pub fit-vector : (registers : List ℕ) (size : ℕ) → judge VectorKind registers size ≡ 0 → FitVector size (vectorOf registers)
-fit-vector registers size e =
-    let r = judged-rows VectorKind registers size e in
-    record { ranged = ranged-vector registers (r .no-23) (r .no-25) (r .no-26); inside = r .no-27 }
+module _ (registers : List ℕ) (size : ℕ) where
+  pub fit-blt : judge BltPrimitive registers size ≡ 0 → FitBlt size (bltOf registers)
+  unfolding bltOf sourceOf patternOf rectangleOf
+  fit-blt e =
+      let rules = judged BltPrimitive registers size e in
+      let later = rules .1 .1 in
+      record {
+        destination-fit = record { ranged = ranged-destination registers (rules .0) (later .0); inside = later .1 .1 .0 };
+        source-fit =
+            if-both (λ s. sourceOutside size s ≡ false → FitSource size (bltOf registers .destination) s) (sourceSelect registers =? 1)
+            (λ i. (
+              record { ranged = from-frame registers (rules .0) (later .0); inside = i },
+              record { depth-same = refl; columns-same = refl; rows-same = (refl, refl) },
+            ))
+            (λ i. tt) (later .1 .1 .1 .0);
+        pattern-fit = if-both FitPattern (patternMode registers =? 1) (omega arith, omega arith) tt;
+      }
+
+  pub fit-vector : judge VectorPrimitive registers size ≡ 0 → FitVector size (vectorOf registers)
+  fit-vector e =
+      let rules = judged VectorPrimitive registers size e in
+      let later = rules .1 .1 in
+      record { ranged = ranged-vector registers (rules .0) (later .0) (later .1 .0); inside = later .1 .1 .0 }

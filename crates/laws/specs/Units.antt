@@ -1,11 +1,66 @@
--- Units one after the other: none, one more, sums of budgets, and n pixels of one command at once.
+-- What a unit is, and units one after the other: none, one more, sums of budgets.
 use Prim.Native.Nat.{ℕ, zero, suc, _+_}
-use mathlib.Core.Path.{_≡_, refl, sym}
+use mathlib.Core.Path.{_≡_, refl, sym, ap, _∙_}
 use mathlib.Core.Bool.{Bool, true, false}
 use mathlib.Core.List.{List}
 use native.Mathlib.Omega.{arith}
 use native.Mathlib.Nat.{zero-add, suc-add}
-use Rattle.model.specs.Unit.{Machine, done, unit, possible, units}
+use borrow.Author.Tests.{eqb-true, eq-eqb}
+use Rattle.model.specs.Choice.{_=?_, not-both, both}
+use Rattle.model.specs.Unit.{Machine, Done, commandRefusal, stopped, loadedCore, drawnCore, drawPixel, unitAt, unit, drawing, ready, done, possible, units}
+use Rattle.model.specs.Steps.{machine, Step, loads, refuses, draws, step-of}
+use Rattle.model.specs.declared.Core.{Core}
+use Rattle.model.specs.declared.Place.{Place}
+use Rattle.model.specs.declared.Place.the-variants.{Drawing}
+use Rattle.model.specs.declared.Primitive.{Primitive}
+
+-- ---- what a unit is, by what the engine does
+
+pub unit-draws : (ring : List ℕ) (m : Machine) (primitive : Primitive) (k : ℕ) → m .core .place ≡ Drawing primitive k
+    → unit ring m ≡ machine (drawnCore (m .core) primitive (k + 1)) (drawPixel primitive (m .core .registers) k (m .frame))
+unfolding unit unitAt
+unit-draws ring m primitive k p = ap (λ (q : Place). unitAt ring q m) p
+
+-- where nothing is being drawn
+module _ (ring : List ℕ) (m : Machine) (idle : drawing (m .core .place) ≡ false) where
+  pub unit-loads : commandRefusal ring (m .core) ≡ 0 → unit ring m ≡ machine (loadedCore ring (m .core)) (m .frame)
+  unit-loads e = go (step-of ring m)
+    where
+      go : Step ring m → unit ring m ≡ machine (loadedCore ring (m .core)) (m .frame)
+      go (loads p f u) = u
+      go (refuses p n u) = absurd (n e)
+      go (draws primitive k p u) = absurd (not-both _ (ap drawing p) idle)
+
+  pub unit-refuses : (commandRefusal ring (m .core) ≡ 0 → ⊥)
+      → unit ring m ≡ machine (stopped (m .core) (commandRefusal ring (m .core))) (m .frame)
+  unit-refuses n = go (step-of ring m)
+    where
+      go : Step ring m → unit ring m ≡ machine (stopped (m .core) (commandRefusal ring (m .core))) (m .frame)
+      go (loads p e u) = absurd (n e)
+      go (refuses p f u) = u
+      go (draws primitive k p u) = absurd (not-both _ (ap drawing p) idle)
+
+-- ---- whether a unit can be done
+
+module _ (ring : List ℕ) (c : Core) (w : ℕ) where
+  -- a pixel can always be drawn
+  pub drawing-possible : (primitive : Primitive) (k : ℕ) → c .stop ≡ 0 → c .place ≡ Drawing primitive k → possible ring c w ≡ true
+  unfolding possible
+  drawing-possible primitive k z p = rw (eq-eqb _ _ z, ap drawing p)
+
+  -- where nothing is being drawn one can be done where a command is ready
+  pub idle-possible : c .stop ≡ 0 → drawing (c .place) ≡ false → possible ring c w ≡ ready ring c w
+  unfolding possible
+  idle-possible z p = rw (eq-eqb _ _ z, p)
+
+  pub possible-running : possible ring c w ≡ true → c .stop ≡ 0
+  unfolding possible
+  possible-running e = eqb-true _ _ (both (c .stop =? 0) _ e .0)
+
+  pub possible-ready : drawing (c .place) ≡ false → possible ring c w ≡ true → ready ring c w ≡ true
+  possible-ready p e = sym (idle-possible (possible-running e) p) ∙ e
+
+-- ---- several units
 
 module _ (ring : List ℕ) (w : ℕ) where
   pub units-zero : (used : ℕ) (m : Machine) → units ring w 0 used m ≡ done m used
@@ -23,30 +78,38 @@ module _ (ring : List ℕ) (w : ℕ) where
   unfolding units
   units-step n used m h = rw h
 
+  -- What holds where the budget is used up, where no unit can be done, and with one unit more, holds of every budget
+  pub units-each : (P : ℕ → ℕ → Machine → Done → Type 0)
+      → ((used : ℕ) (m : Machine) → P 0 used m (done m used))
+      → ((n used : ℕ) (m : Machine) → possible ring (m .core) w ≡ false → P n used m (done m used))
+      → ((n used : ℕ) (m : Machine) (d : Done) → possible ring (m .core) w ≡ true → P n (used + 1) (unit ring m) d → P (suc n) used m d)
+      → (n used : ℕ) (m : Machine) → P n used m (units ring w n used m)
+  unfolding units
+  units-each P spent rests more zero used m = spent used m
+  units-each P spent rests more (suc n) used m =
+      go (possible ring (m .core) w) refl (units-each P spent rests more n (used + 1) (unit ring m))
+    where
+      go : (b : Bool) → possible ring (m .core) w ≡ b → P n (used + 1) (unit ring m) (units ring w n (used + 1) (unit ring m))
+          → P (suc n) used m (units ring w (suc n) used m)
+      go true e i = rw e (more n used m _ e i)
+      go false e i = rw e (rests (suc n) used m e)
+
   -- b more after a
   pub units-add : (a b used : ℕ) (m : Machine)
       → units ring w (a + b) used m ≡ units ring w b (units ring w a used m .used) (units ring w a used m .machine)
-  units-add zero b used m = rw (zero-add, units-zero used m)
-  units-add (suc a) b used m = go (possible ring (m .core) w) refl (units-add a b (used + 1) (unit ring m))
-    where
-      go : (t : Bool) → possible ring (m .core) w ≡ t
-          → units ring w (a + b) (used + 1) (unit ring m)
-          ≡ units ring w b (units ring w a (used + 1) (unit ring m) .used) (units ring w a (used + 1) (unit ring m) .machine)
-          → units ring w (suc a + b) used m ≡ units ring w b (units ring w (suc a) used m .used) (units ring w (suc a) used m .machine)
-      go true h i = rw (suc-add, units-step (a + b) used m h, units-step a used m h) i
-      go false h i = rw (units-stop (suc a + b) used m h, units-stop (suc a) used m h) (sym (units-stop b used m h))
+  units-add a b =
+      units-each (λ n used m d. units ring w (n + b) used m ≡ units ring w b (d .used) (d .machine))
+      (λ used m. rw zero-add)
+      (λ n used m e. units-stop (n + b) used m e ∙ sym (units-stop b used m e))
+      (λ n used m d e i. rw suc-add (units-step (n + b) used m e ∙ i)) a
 
   -- counting on from another number
   pub units-shift : (n more used : ℕ) (m : Machine)
       → units ring w n (more + used) m ≡ done (units ring w n used m .machine) (more + units ring w n used m .used)
-  units-shift zero more used m = rw (units-zero (more + used) m, units-zero used m)
-  units-shift (suc n) more used m = go (possible ring (m .core) w) refl (units-shift n more (used + 1) (unit ring m))
-    where
-      go : (t : Bool) → possible ring (m .core) w ≡ t
-          → units ring w n (more + (used + 1)) (unit ring m)
-          ≡ done (units ring w n (used + 1) (unit ring m) .machine) (more + units ring w n (used + 1) (unit ring m) .used)
-          → units ring w (suc n) (more + used) m ≡ done (units ring w (suc n) used m .machine) (more + units ring w (suc n) used m .used)
-      go true h i =
-          let e : more + used + 1 ≡ more + (used + 1) = omega arith in
-          rw (units-step n (more + used) m h, units-step n used m h, e) i
-      go false h i = rw (units-stop (suc n) (more + used) m h, units-stop (suc n) used m h)
+  units-shift n more =
+      units-each (λ n used m d. units ring w n (more + used) m ≡ done (d .machine) (more + d .used))
+      (λ used m. units-zero (more + used) m)
+      (λ n used m e. units-stop n (more + used) m e)
+      (λ n used m d e i.
+      let s : more + used + 1 ≡ more + (used + 1) = omega arith in
+      units-step n (more + used) m e ∙ ap (λ (k : ℕ). units ring w n k (unit ring m)) s ∙ i) n

@@ -1,13 +1,14 @@
 -- The calls: setup, publish, run, restart and asking for room, with the state, frame memory and answer of each (document 01,
 -- Refusal numbers).
 use Prim.Native.Nat.{ℕ}
-use mathlib.Core.Bool.{Bool, false, not, _&&_, _||_}
-use mathlib.Core.List.{List}
+use mathlib.Core.Bool.{Bool, not, _&&_, _||_}
+use mathlib.Core.List.{List, [], _∷_}
 use lib.ListN.{length, replicate}
 use Rattle.model.specs.Choice.{_<?_, _≤?_, _=?_, if_then_else_}
-use Rattle.model.specs.Limits.{ringLeast, ringMost, frameMost}
+use Rattle.model.specs.Refusals.{Rule, _when_, first, any}
+use Rattle.model.specs.Limits.{ringLeast, ringMost, frameMost, stopLeast, stopMost}
 use Rattle.model.specs.Registers.{registerCount}
-use Rattle.model.specs.Ring.{room, publishRefusal}
+use Rattle.model.specs.Ring.{room, positionRules}
 use Rattle.model.specs.Judging.{judge}
 use Rattle.model.specs.Unit.{Machine, Done, pixelCount, possible, units}
 use Rattle.model.specs.declared.Core.{Core}
@@ -51,23 +52,53 @@ badFrame framelength = framelength =? 0 || frameMost <? framelength
 
 -- "neither 0 nor one of 21 and above in this table"
 abbrev pub badStop : ℕ → Bool
-badStop stop = not (stop =? 0) && (stop <? 21 || 28 <? stop)
+badStop stop = not (stop =? 0) && (stop <? stopLeast || stopMost <? stop)
 
 -- "a stop together with a command in progress, or a command in progress that judging would refuse or whose place isn't one
 -- of its pixels as reached by its own steps"
-abbrev pub badPlace : Core → Place → Bool
-badPlace c Idle = false
-badPlace c (Drawing kind k) =
+abbrev pub placeTests : Core → Place → List Bool
+placeTests c Idle = []
+placeTests c (Drawing primitive k) =
     not (c .stop =? 0)
-    || not (judge kind (c .registers) (c .framelength) =? 0)
-    || pixelCount kind (c .registers) ≤? k
+    ∷ not (judge primitive (c .registers) (c .framelength) =? 0)
+    ∷ (pixelCount primitive (c .registers) ≤? k)
+    ∷ []
 
--- 3: "state unfit"
+-- 3: "state unfit: a length outside 1 or 2, a pointer not below ring size", and those. Some of these tests holds for a core
+-- with this write pointer.
+abbrev pub unfitTests : Core → ℕ → List Bool
+unfitTests c write =
+    badRing (c .ringlength)
+    ∷ badFrame (c .framelength)
+    ∷ (c .ringlength ≤? c .read)
+    ∷ (c .ringlength ≤? write)
+    ∷ badStop (c .stop)
+    ∷ placeTests c (c .place)
+
 unfoldable pub unfit : State → Bool
-unfit s =
-    badRing (s .core .ringlength) || badFrame (s .core .framelength)
-    || s .core .ringlength ≤? s .core .read || s .core .ringlength ≤? s .write
-    || badStop (s .core .stop) || badPlace (s .core) (s .core .place)
+unfit s = any (unfitTests (s .core) (s .write))
+
+-- ---- the refusals of the calls, in the order in which they are judged
+
+abbrev pub setupRules : ℕ → ℕ → List Rule
+setupRules ringlength framelength = 1 when badRing ringlength ∷ 2 when badFrame framelength ∷ []
+
+abbrev pub publishRules : State → ℕ → List Rule
+publishRules s p = 3 when unfit s ∷ positionRules (s .core .ringlength) (s .core .read) (s .write) p
+
+-- 4: "lent ring or frame has another length than the state says"
+abbrev pub runRules : State → ℕ → ℕ → List Rule
+runRules s ringlength framelength =
+    3 when unfit s
+    ∷ 4 when (not (ringlength =? s .core .ringlength) || not (framelength =? s .core .framelength))
+    ∷ []
+
+-- 7: "engine not stopped"
+abbrev pub restartRules : State → List Rule
+restartRules s = 3 when unfit s ∷ 7 when (s .core .stop =? 0) ∷ []
+
+abbrev pub roomRules : State → List Rule
+roomRules s = 3 when unfit s ∷ []
 
 -- ---- the calls
 
@@ -80,6 +111,10 @@ accepted s = record { state = s; reply = Accepted (roomAfter s) }
 
 abbrev pub refused : State → ℕ → Answer
 refused s number = record { state = s; reply = Refused number }
+
+-- refused by the first rule that applies, with the state `kept`, or else accepted with the state `moved`
+abbrev pub answered : List Rule → State → State → Answer
+answered rules kept moved = if first rules =? 0 then accepted moved else refused kept (first rules)
 
 -- "After setup all registers, pointers and the completion number are zero", and nothing is in progress
 abbrev pub freshState : ℕ → ℕ → State
@@ -98,20 +133,14 @@ freshState ringlength framelength = record {
 
 unfoldable pub setup : ℕ → ℕ → Answer
 setup ringlength framelength =
-    if badRing ringlength then refused (freshState 0 0) 1
-    else if badFrame framelength then refused (freshState 0 0) 2
-    else accepted (freshState ringlength framelength)
+    answered (setupRules ringlength framelength) (freshState 0 0) (freshState ringlength framelength)
 
 -- an accepted publishing moves the write pointer alone
 abbrev pub withWrite : State → ℕ → State
 withWrite s p = record { core = s .core; write = p }
 
 unfoldable pub publish : State → ℕ → Answer
-publish s p =
-    let number = publishRefusal (s .core .ringlength) (s .core .read) (s .write) p in
-    if unfit s then refused s 3
-    else if number =? 0 then accepted (withWrite s p)
-    else refused s number
+publish s p = answered (publishRules s p) s (withWrite s p)
 
 -- "Restart clears the stop number and moves read to write; all else stays."
 abbrev pub restarted : State → State
@@ -129,13 +158,10 @@ restarted s = record {
 }
 
 unfoldable pub restart : State → Answer
-restart s =
-    if unfit s then refused s 3
-    else if s .core .stop =? 0 then refused s 7
-    else accepted (restarted s)
+restart s = answered (restartRules s) s (restarted s)
 
 unfoldable pub askRoom : State → Answer
-askRoom s = if unfit s then refused s 3 else accepted s
+askRoom s = answered (roomRules s) s s
 
 -- "stopped, if a stop number stands; else waiting, if no further unit can be done; else spent"
 unfoldable pub runWord : List ℕ → State → RunWord
@@ -146,10 +172,7 @@ runWord ring s =
 
 -- the number that refuses a run, or 0
 unfoldable pub runRefusal : List ℕ → State → List ℕ → ℕ
-runRefusal ring s frame =
-    if unfit s then 3
-    else if not (length ring =? s .core .ringlength) || not (length frame =? s .core .framelength) then 4
-    else 0
+runRefusal ring s frame = first (runRules s (length ring) (length frame))
 
 -- the state without the write pointer, and frame memory
 abbrev pub machineOf : State → List ℕ → Machine

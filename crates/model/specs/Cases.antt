@@ -1,44 +1,66 @@
 -- The marked shop cases of document 01, shown from the definitions in one table, with further cases that pin the definitions
 -- where the marked ones leave room, and with the words of a released display driver.
-use Prim.Native.Nat.{ℕ, _/_, _%_, _^_}
+use Prim.Native.Nat.{ℕ, _+_, _-_, _/_, _%_, _^_}
 use mathlib.Core.Path.{_≡_, refl}
-use mathlib.Core.Bool.{true, false}
+use mathlib.Core.Bool.{Bool, true, false}
 use mathlib.Core.List.{List, [], _∷_, _++_, map}
-use lib.ListN.{replicate, set}
+use lib.ListN.{length, replicate, set}
+use Rattle.model.specs.Choice.{_≤?_}
+use Rattle.model.specs.Refusals.{first, any}
+use Rattle.model.specs.Limits.{ringLeast, ringMost, frameMost}
+use Rattle.model.specs.Registers.{registerCount, RASTER-MODE, DST-OFFSET, SRC-OFFSET, STRIDE, WID-HEIGHT, SRC-COLOR-FG, PAT-COLOR-0, PAT-COLOR-1, PAT-DATA-0, PAT-DATA-1, CH3-MODE-STR, CH3-WIDHI, BASE-OFFSET, BLT-MODE, VECTOR-MODE, VEC-ERR, VEC-LEN}
 use Rattle.model.specs.Formats.{formatOf}
-use Rattle.model.specs.Bounds.{byteOutside, some, outside}
+use Rattle.model.specs.Bounds.{byteOutside, some, outside, least, greatest, extent}
+use Rattle.model.specs.Rectangle.{pixelByte, rectangleExtent}
 use Rattle.model.specs.Pixel.{readPixel, storePixel}
-use Rattle.model.specs.Ring.{distance, waiting, room, publishRefusal, wordAt}
+use Rattle.model.specs.Ring.{distance, waiting, room, positionRules, wordAt}
 use Rattle.model.specs.Raster.{raster, raster-source, raster-pattern, raster-destination, raster-pattern-xor, raster-source-xor}
 use Rattle.model.specs.Pattern.{patternByte, patternBit, patternIndex}
-use Rattle.model.specs.BltPixel.{bltOf, destinationByte, sourceByte, inkBit, patternValue, skipped, sourceValue, drawBlt}
-use Rattle.model.specs.VectorPixel.{signed16, vectorOf, axialStep, diagonalStep, step, position, vectorByte, drawVector}
-use Rattle.model.specs.Command.{kindOf, badHeader, badReturn, headerRefusal, whole, loadWords, loaded, readAfter}
+use Rattle.model.specs.Operands.{drawOperands}
+use Rattle.model.specs.BltPixel.{rectangleOf, sourceOf, patternOf, bltOf, sourceValue, monoBit, withPattern, operandsAt, drawAt, drawBlt}
+use Rattle.model.specs.VectorPixel.{signed16, vectorOf, axialStep, diagonalStep, step, position, vectorExtent, vectorByte, drawVector}
+use Rattle.model.specs.Command.{returns, kindOf, badHeader, commandLength, drawnBy, badReturn, headerRules, wholeWords, readAfter, loadWords, loaded}
 use Rattle.model.specs.Judging.{judge}
 use Rattle.model.specs.Completion.{retired}
-use Rattle.model.specs.Unit.{commandRefusal, ready, stopped, loadedCore, pixelCount, drawPixel, drawnCore, unitAt, unit, possible, units}
-use Rattle.model.specs.Calls.{unfit, setup, publish, runWord, runRefusal, runUnits, ranAnswer, run, runFrame}
+use Rattle.model.specs.Unit.{headerRefusal, commandRefusal, needed, ready, stopped, loadedCore, pixelCount, drawPixel, drawnCore, unitAt, unit, possible, units}
+use Rattle.model.specs.Calls.{numberOf, unfit, freshState, setup, publish, restart, askRoom, runWord, runRefusal, runUnits, ranAnswer, run, runFrame}
 use Rattle.model.specs.declared.State.{State}
-use Rattle.model.specs.declared.Kind.the-variants.{Blt, Vector}
+use Rattle.model.specs.declared.Answer.{Answer}
+use Rattle.model.specs.declared.Extent.{Extent}
+use Rattle.model.specs.declared.Extent.the-variants.{Inside, Outside}
+use Rattle.model.specs.declared.Primitive.{Primitive}
+use Rattle.model.specs.declared.Primitive.the-variants.{Blt, Vector}
 use Rattle.model.specs.declared.Place.{Place}
 use Rattle.model.specs.declared.Place.the-variants.{Idle, Drawing}
 use Rattle.model.specs.declared.RunWord.the-variants.{Stopped, Waiting, Spent}
-use Rattle.model.specs.declared.Reply.the-variants.{Accepted, Ran}
+use Rattle.model.specs.declared.Reply.{Reply}
+use Rattle.model.specs.declared.Reply.the-variants.{Refused, Accepted, Ran}
 
 -- ---- how the cases are set up
 
--- seventeen registers by name
-abbrev pub registersOf : (raster dst src stride size blt vector : ℕ) → List ℕ
-registersOf raster dst src stride size blt vector =
-    raster ∷ dst ∷ src ∷ stride ∷ size ∷ 0 ∷ 0 ∷ 0 ∷ 0 ∷ 0 ∷ 0 ∷ 0 ∷ 0 ∷ 0 ∷ 0 ∷ blt ∷ vector ∷ []
+-- the ring of the cases is the least; late positions are counted from its end: word 50 of 64 is size - 14
+abbrev pub size : ℕ
+size = ringLeast
 
--- an engine with a ring of 64 words, and one that has neither retired a command nor stopped
+-- a list with another value in one place
+infixl 30 _but_is_
+abbrev pub _but_is_ : List ℕ → ℕ → ℕ → List ℕ
+list but place is value = set list place value
+
+-- registers that are all 0, and a ring that begins with these words
+abbrev pub zeros : List ℕ
+zeros = replicate registerCount 0
+
+abbrev pub ringOf : List ℕ → List ℕ
+ringOf words = words ++ replicate (size - length words) 0
+
+-- an engine, and one that has neither retired a command nor stopped
 abbrev pub engineAt : List ℕ → (framelength read write completion stop : ℕ) → Place → State
 engineAt registers framelength read write completion stop place = record {
   core = record {
     registers = registers;
     read = read;
-    ringlength = 64;
+    ringlength = size;
     framelength = framelength;
     completion = completion;
     stop = stop;
@@ -50,30 +72,46 @@ engineAt registers framelength read write completion stop place = record {
 abbrev pub engine : List ℕ → (framelength read write : ℕ) → Place → State
 engine registers framelength read write place = engineAt registers framelength read write 0 0 place
 
-abbrev pub zeros : List ℕ
-zeros = replicate 17 0
+abbrev pub answer : State → Reply → Answer
+answer s reply = record { state = s; reply = reply }
 
--- a ring of 64 zeros but for one word
-abbrev pub ringWith : ℕ → ℕ → List ℕ
-ringWith at header = set (replicate 64 0) at header
+-- a run of at most 9 units, all registers 0 and 16 bytes of frame memory
+abbrev pub ran : List ℕ → (read write : ℕ) → Answer
+ran ring read write = run ring (engine zeros 16 read write Idle) (replicate 16 0) 9
 
--- the frame memory that a copy of one row of four bytes leaves of 1 2 3 4 5, run as four units
-abbrev pub copied : (src dst mode : ℕ) → List ℕ
-copied src dst mode =
-    runFrame (replicate 64 0) (engine (registersOf 0xCC dst src 0 0x00040001 mode 0) 5 0 0 (Drawing Blt 0))
-    (1 ∷ 2 ∷ 3 ∷ 4 ∷ 5 ∷ []) 4
+-- frame memory once a BLT with these registers is drawn, pixel by pixel
+abbrev pub drawn : List ℕ → List ℕ → List ℕ
+drawn registers frame = runFrame (ringOf []) (engine registers (length frame) 0 0 (Drawing Blt 0)) frame 99
 
--- where pixels 0 to 5 of a vector lie, in one byte a pixel and rows of 100 bytes
+-- a command with this header is whole; the number that its header gets
+abbrev pub whole : (read write header : ℕ) → Bool
+whole read write header = wholeWords size read (commandLength (kindOf header)) (returns header) ≤? waiting size read write
+
+abbrev pub headerNumber : (read header : ℕ) → ℕ
+headerNumber read header = first (headerRules size read header (commandLength (kindOf header)))
+
+-- one row of four pixels of one byte by code F0h, and a copy of one by CCh (BLT_MODE 1h, or 201h with X negative)
+abbrev pub row : List ℕ
+row = zeros but RASTER-MODE is 0xF0 but WID-HEIGHT is 0x00040001
+
+abbrev pub copy : (src dst mode : ℕ) → List ℕ
+copy src dst mode = row but RASTER-MODE is 0xCC but SRC-OFFSET is src but DST-OFFSET is dst but BLT-MODE is mode
+
+-- a vector of one pixel of one byte by code F0h, stride 2
+abbrev pub line : List ℕ
+line = zeros but RASTER-MODE is 0xF0 but STRIDE is 2 but VEC-LEN is 0x00010000
+
+-- where pixels 0 to 5 of a vector lie in rows of 100 bytes
 abbrev pub firstSix : (dst err len mode : ℕ) → List (ℕ × ℕ)
 firstSix dst err len mode =
-    map (λ k. let at = vectorByte (vectorOf (registersOf 0xF0 dst err 100 len 0 mode)) k in (at % 100, at / 100))
-    (0 ∷ 1 ∷ 2 ∷ 3 ∷ 4 ∷ 5 ∷ [])
+    let v = vectorOf (line but DST-OFFSET is dst but VEC-ERR is err but STRIDE is 100 but VEC-LEN is len but VECTOR-MODE is mode) in
+    map (λ k. (vectorByte v k % 100, vectorByte v k / 100)) (0 ∷ 1 ∷ 2 ∷ 3 ∷ 4 ∷ 5 ∷ [])
 
 -- the bits that eight pixels to the right get of pattern row A5h, from X low bits x
 abbrev pub rowA5 : ℕ → List ℕ
 rowA5 x = map (λ i. patternBit 0xA5 0 0 (patternIndex false x i)) (0 ∷ 1 ∷ 2 ∷ 3 ∷ 4 ∷ 5 ∷ 6 ∷ 7 ∷ [])
 
--- ---- the table
+-- ---- the marked cases
 
 pub record Cases : Type 0 where
   -- "Code 5Ah, P FFh, D F0h: 0Fh. Code 66h, S 3Ch, D 0Fh: 33h. CCh gives S, F0h gives P, AAh gives D."
@@ -83,130 +121,251 @@ pub record Cases : Type 0 where
   pub code-F0 : (bits p s d : ℕ) → raster bits 0xF0 p s d ≡ p % 2 ^ bits
   pub code-AA : (bits p s d : ℕ) → raster bits 0xAA p s d ≡ d % 2 ^ bits
   -- "Bytes 1 2 3 4 5, width 4, copy 0 to 1 with X positive: 1 1 1 1 1. X negative, source 3, destination 4: 1 1 2 3 4."
-  pub copy-right : copied 0 1 0x001 ≡ 1 ∷ 1 ∷ 1 ∷ 1 ∷ 1 ∷ []
-  pub copy-left : copied 3 4 0x201 ≡ 1 ∷ 1 ∷ 2 ∷ 3 ∷ 4 ∷ []
+  pub copy-right : drawn (copy 0 1 0x001) (1 ∷ 2 ∷ 3 ∷ 4 ∷ 5 ∷ []) ≡ 1 ∷ 1 ∷ 1 ∷ 1 ∷ 1 ∷ []
+  pub copy-left : drawn (copy 3 4 0x201) (1 ∷ 2 ∷ 3 ∷ 4 ∷ 5 ∷ []) ≡ 1 ∷ 1 ∷ 2 ∷ 3 ∷ 4 ∷ []
   -- "Terms 4, -6, initial -1, length 6, X major, both signs positive: (0,0) (1,0) (2,1) (3,1) (4,2) (5,2)."
   pub vector-six : firstSix 0 0x0004FFFA 0x0006FFFF 6 ≡ (0, 0) ∷ (1, 0) ∷ (2, 1) ∷ (3, 1) ∷ (4, 2) ∷ (5, 2) ∷ []
   -- "Pattern row A5h: X low bits 0 sets columns 0 2 5 7; low bits 3 sets 2 4 5 7."
   pub row-A5-from-0 : rowA5 0 ≡ 1 ∷ 0 ∷ 1 ∷ 0 ∷ 0 ∷ 1 ∷ 0 ∷ 1 ∷ []
   pub row-A5-from-3 : rowA5 3 ≡ 0 ∷ 0 ∷ 1 ∷ 0 ∷ 1 ∷ 1 ∷ 0 ∷ 1 ∷ []
   -- "Ring of 64. Empty: room 63. Read 0, write 63: room 0; publishing 0 is refused by 6."
-  pub ring-empty : room 64 0 0 ≡ 63
-  pub ring-full : room 64 0 63 ≡ 0
-  pub ring-full-publish : publishRefusal 64 0 63 0 ≡ 6
+  pub ring-empty : room size 0 0 ≡ size - 1
+  pub ring-full : room size 0 (size - 1) ≡ 0
+  pub ring-full-publish : first (positionRules size 0 (size - 1) 0) ≡ 6
   -- "Read 50, BLT, write 3: 17 waiting, whole. Same with W: 22."
-  pub across-waiting : waiting 64 50 3 ≡ 17
-  pub across-whole : whole 64 50 3 0x00000000 ≡ true
-  pub across-return : headerRefusal 64 50 0x80000000 ≡ 22
-  pub across-return-run : run (ringWith 50 0x80000000) (engine zeros 16 50 3 Idle) (replicate 16 0) 9 .reply ≡ Ran Stopped 1 46
+  pub across-waiting : waiting size (size - 14) 3 ≡ 17
+  pub across-whole : whole (size - 14) 3 0x00000000 ≡ true
+  pub across-return : headerNumber (size - 14) 0x80000000 ≡ 22
+  pub across-return-run : ran (ringOf [] but size - 14 is 0x80000000) (size - 14) 3 .reply ≡ Ran Stopped 1 (size - 18)
   -- "Read 40, BLT with W, write 57: waiting; write 0: done, read 0."
-  pub return-waits : run (ringWith 40 0x80000000) (engine zeros 16 40 57 Idle) (replicate 16 0) 9 .reply ≡ Ran Waiting 0 46
-  pub return-done : run (ringWith 40 0x80000000) (engine zeros 16 40 0 Idle) (replicate 16 0) 9 .reply ≡ Ran Waiting 1 63
-  pub return-read : run (ringWith 40 0x80000000) (engine zeros 16 40 0 Idle) (replicate 16 0) 9 .state .core .read ≡ 0
+  pub return-waits : ran (ringOf [] but size - 24 is 0x80000000) (size - 24) (size - 7) .reply ≡ Ran Waiting 0 (size - 18)
+  pub return-done : ran (ringOf [] but size - 24 is 0x80000000) (size - 24) 0 .reply ≡ Ran Waiting 1 (size - 1)
+  pub return-read : ran (ringOf [] but size - 24 is 0x80000000) (size - 24) 0 .state .core .read ≡ 0
 
 -- ---- further cases
 
--- the number that judges a BLT of 3 by 2 pixels of two bytes, destination stride 16, in a frame memory of so many bytes;
--- mode 0 is right and down, 200h left, 100h up
-abbrev pub judged : (offset mode framelength : ℕ) → ℕ
-judged offset mode framelength = judge Blt (registersOf 0x600000F0 offset 0 16 0x00030002 mode 0) framelength
+-- the numbers that judge the row, with each of these values in a register, in 16 bytes of frame memory
+abbrev pub rowWith : ℕ → List ℕ → List ℕ
+rowWith register values = map (λ value. judge Blt (row but register is value) 16) values
 
--- the number that judges a BLT of one row of four bytes by these fields, frame memory of 16 bytes
-abbrev pub judgedRow : (raster dst src blt : ℕ) → ℕ
-judgedRow raster dst src blt = judge Blt (registersOf raster dst src 0 0x00040001 blt 0) 16
+-- those that judge the line in 8 bytes
+abbrev pub lineWith : ℕ → List ℕ → List ℕ
+lineWith register values = map (λ value. judge Vector (line but register is value) 8) values
 
--- the number that judges a vector of one byte a pixel, stride 2
-abbrev pub judgedVector : (raster dst err len mode framelength : ℕ) → ℕ
-judgedVector raster dst err len mode framelength = judge Vector (registersOf raster dst err 2 len 0 mode) framelength
+-- 3 by 2 pixels of two bytes, destination stride 16, in so many bytes of frame memory: the number that judges them, and their
+-- extent. BLT_MODE 0 is right and down, 200h left, 100h up
+abbrev pub bounds : (offset mode framelength : ℕ) → ℕ × Extent
+bounds offset mode framelength =
+    let blt = copy 0 offset mode but RASTER-MODE is 0x600000F0 but STRIDE is 16 but WID-HEIGHT is 0x00030002 in
+    (judge Blt blt framelength, rectangleExtent framelength (bltOf blt .destination))
 
--- a ring whose first words are a header and RASTER_MODE
-abbrev pub ringFrom : ℕ → ℕ → List ℕ
-ringFrom header raster = set (set (replicate 64 0) 0 header) 1 raster
+-- the same of a vector with terms 1 and -3, initial -2, length 4, X positive, Y negative
+abbrev pub vectorBounds : ℕ → ℕ × Extent
+vectorBounds framelength =
+    let v = line but DST-OFFSET is 4 but VEC-ERR is 0x0001FFFD but VEC-LEN is 0x0004FFFE but VECTOR-MODE is 2 in
+    (judge Vector v framelength, vectorExtent framelength (vectorOf v))
 
-pub record Further : Type 0 where
-  -- "Frame of 16 bytes, 8 bpp, one row of 4: offset 12 drawn, 13 refused by 27." (not marked)
-  pub row-fits : judgedRow 0xF0 12 0 0 ∷ judgedRow 0xF0 13 0 0 ∷ [] ≡ 0 ∷ 27 ∷ []
-  -- the extremes in the four directions: the frame memory that just holds them, and one byte less
-  pub right-down : judged 40 0x000 62 ∷ judged 40 0x000 61 ∷ [] ≡ 0 ∷ 27 ∷ []
-  pub left-down : judged 40 0x200 58 ∷ judged 40 0x200 57 ∷ [] ≡ 0 ∷ 27 ∷ []
-  pub right-up : judged 40 0x100 46 ∷ judged 40 0x100 45 ∷ judged 15 0x100 62 ∷ [] ≡ 0 ∷ 27 ∷ 27 ∷ []
-  pub left-up : judged 20 0x300 22 ∷ judged 20 0x300 21 ∷ judged 19 0x300 62 ∷ [] ≡ 0 ∷ 27 ∷ 27 ∷ []
+-- where pixels lie: 27 and 28
+pub record Extremes : Type 0 where
+  -- "Frame of 16 bytes, 8 bpp, one row of 4: offset 12 drawn, 13 refused by 27." (not marked); an offset is bits 23:0
+  pub row-fits : rowWith DST-OFFSET (12 ∷ 13 ∷ 0xFF00000C ∷ []) ≡ 0 ∷ 27 ∷ 0 ∷ []
+  -- the four directions: frame memory that just holds the pixels, one byte less, and below byte 0
+  pub right-down : map (bounds 40 0x000) (62 ∷ 61 ∷ []) ≡ (0, Inside 40 61) ∷ (27, Outside) ∷ []
+  pub left-down : map (bounds 40 0x200) (58 ∷ 57 ∷ []) ≡ (0, Inside 36 57) ∷ (27, Outside) ∷ []
+  pub right-up : bounds 15 0x100 62 ∷ map (bounds 40 0x100) (46 ∷ 45 ∷ []) ≡ (27, Outside) ∷ (0, Inside 24 45) ∷ (27, Outside) ∷ []
+  pub left-up : bounds 19 0x300 62 ∷ map (bounds 20 0x300) (22 ∷ 21 ∷ []) ≡ (27, Outside) ∷ (0, Inside 0 21) ∷ (27, Outside) ∷ []
   -- 28 only where the source is selected, 27 before it
-  pub source-bounds : judgedRow 0xF0 0 13 0x1 ∷ judgedRow 0xF0 0 13 0x0 ∷ judgedRow 0xF0 13 13 0x1 ∷ [] ≡ 28 ∷ 0 ∷ 27 ∷ []
-  -- 23: code 0001, code 0111, alpha; 24: each bit and mode of RASTER_MODE, each mode of BLT_MODE
-  pub formats-refused : map (λ r. judgedRow r 0 0 0) (0x100000F0 ∷ 0x700000F0 ∷ 0x004000F0 ∷ 0x008000F0 ∷ []) ≡ replicate 4 23
-  pub modes-refused : map (λ r. judgedRow r 0 0 0) (0x20F0 ∷ 0x10F0 ∷ 0x08F0 ∷ 0x02F0 ∷ 0x03F0 ∷ []) ≡ replicate 5 24
-  pub sources-refused : map (λ b. judgedRow 0xF0 0 0 b) (0x40 ∷ 0x80 ∷ 0xC0 ∷ 0x02 ∷ 0x03 ∷ []) ≡ replicate 5 24
-  pub no-effect : map (λ r. judgedRow r 0 0 0xC04) (0x000001F0 ∷ 0x000005F0 ∷ 0x000004F0 ∷ 0x0F3FC0F0 ∷ []) ≡ replicate 4 0
-  -- vectors: 24 for a mono pattern, 25 before 26, 26 for either term
-  pub vectors-refused :
-      judgedVector 0x1F0 0 0 0x00010000 0 8
-      ∷ judgedVector 0xF0 0 0xFFFF0000 0 0 8
-      ∷ judgedVector 0xF0 0 0xFFFF0000 0x00010000 0 8
-      ∷ judgedVector 0xF0 0 0x00000001 0x00010000 0 8
-      ∷ []
-      ≡ 24 ∷ 25 ∷ 26 ∷ 26 ∷ []
-  -- X positive, Y negative: bytes 4 5 6 5, of which an inner one is the highest; one pixel alone takes no step
-  pub inner-extreme : judgedVector 0xF0 4 0x0001FFFD 0x0004FFFE 2 7 ∷ judgedVector 0xF0 4 0x0001FFFD 0x0004FFFE 2 6 ∷ [] ≡ 0 ∷ 27 ∷ []
-  pub one-pixel : judgedVector 0xF0 7 0 0x00010000 6 8 ≡ 0
+  pub source-bounds :
+      map (λ b. judge Blt b 16) (copy 13 0 1 ∷ copy 13 0 0 ∷ copy 13 13 1 ∷ copy 0xFF00000C 0 1 ∷ []) ≡ 28 ∷ 0 ∷ 27 ∷ 0 ∷ []
+  -- of a vector at bytes 4 5 6 5 an inner pixel is the highest; one pixel alone takes no step
+  pub inner-extreme : map vectorBounds (7 ∷ 6 ∷ []) ≡ (0, Inside 4 6) ∷ (27, Outside) ∷ []
+  pub one-pixel : judge Vector (line but DST-OFFSET is 7 but VECTOR-MODE is 6) 8 ≡ 0
+
+-- 23 to 26
+pub record Judged : Type 0 where
+  -- 23: codes 0001 and 0111, alpha
+  pub formats-refused : rowWith RASTER-MODE (0x100000F0 ∷ 0x700000F0 ∷ 0x004000F0 ∷ 0x008000F0 ∷ []) ≡ replicate 4 23
+  -- 24: each bit and mode of RASTER_MODE, each mode of BLT_MODE, channel 3, BASE_OFFSET; 25; and bits that refuse nothing
+  pub modes-refused : rowWith RASTER-MODE (0x20F0 ∷ 0x10F0 ∷ 0x08F0 ∷ 0x02F0 ∷ 0x03F0 ∷ []) ≡ replicate 5 24
+  pub sources-refused : rowWith BLT-MODE (0x40 ∷ 0x80 ∷ 0xC0 ∷ 0x02 ∷ 0x03 ∷ []) ≡ replicate 5 24
+  pub channel-3-refused : rowWith CH3-MODE-STR (0x80000000 ∷ 0x7FFFFFFF ∷ []) ≡ 24 ∷ 0 ∷ []
+  pub base-refused : rowWith BASE-OFFSET (0x00000001 ∷ 0x80000000 ∷ []) ≡ 24 ∷ 24 ∷ []
+  pub sizes-refused : rowWith WID-HEIGHT (0xF000F001 ∷ 0xF004F000 ∷ 0xF004F001 ∷ []) ≡ 25 ∷ 25 ∷ 0 ∷ []
+  pub no-effect :
+      map (λ r. judge Blt (copy 0 0 0xC04 but RASTER-MODE is r) 16) (0x1F0 ∷ 0x5F0 ∷ 0x4F0 ∷ 0x0F3FC0F0 ∷ []) ≡ replicate 4 0
+  -- vectors: 24 as for a BLT and for a pattern that isn't solid, nothing by BLT_MODE; 25 before 26; 26 for either term
+  pub vectors-refused : lineWith RASTER-MODE (0x20F0 ∷ 0x10F0 ∷ 0x08F0 ∷ 0x01F0 ∷ 0x02F0 ∷ 0x03F0 ∷ []) ≡ replicate 6 24
+  pub vector-blt-mode : lineWith BLT-MODE (0x01 ∷ 0xC3 ∷ []) ≡ 0 ∷ 0 ∷ []
+  pub vector-length : judge Vector (line but VEC-ERR is 0xFFFF0000 but VEC-LEN is 0xF000FFFF) 8 ≡ 25
+  pub vector-terms : lineWith VEC-ERR (0xFFFF0000 ∷ 0x80000000 ∷ 0x00000001 ∷ 0x7FFF8000 ∷ []) ≡ 26 ∷ 26 ∷ 26 ∷ 0 ∷ []
+
+-- a BLT's words after the header
+abbrev pub numbers : List ℕ
+numbers = 1 ∷ 2 ∷ 3 ∷ 4 ∷ 5 ∷ 6 ∷ 7 ∷ 8 ∷ 9 ∷ 10 ∷ 11 ∷ 12 ∷ 13 ∷ 14 ∷ 15 ∷ 16 ∷ []
+
+-- headers and words
+pub record Commands : Type 0 where
+  -- kinds 10 and 11, reserved bits of both kinds; S has no effect; W that ends exactly at the ring's end, and at word 0
+  pub headers-refused :
+      map (headerNumber 10) (0x40000000 ∷ 0x60000000 ∷ 0x00010000 ∷ 0x08000000 ∷ 0x20002000 ∷ 0x28000000 ∷ []) ≡ replicate 6 21
+  pub headers-taken : map (headerNumber 10) (0x1000FFFF ∷ 0x30001FFF ∷ 0x80000000 ∷ 0xA0000000 ∷ []) ≡ replicate 4 0
+  pub returns-at-end : map (λ read. headerNumber read 0x80000000) ((size - 17) ∷ (size - 16) ∷ 0 ∷ []) ≡ 0 ∷ 22 ∷ 22 ∷ []
+  -- a bad header stops as soon as it waits, a good one waits for its words
+  pub header-alone : ran (ringOf (0x60000000 ∷ [])) 0 1 .reply ≡ Ran Stopped 1 (size - 2)
+  pub part-waits : ran (ringOf []) 0 16 .reply ≡ Ran Waiting 0 (size - 17)
+  -- a command that only loads is one unit, and is retired by it; a vector has 14 words
+  pub only-loads :
+      ran (ringOf (0x20000001 ∷ 0xAB ∷ [])) 0 14
+      ≡ answer (engineAt (zeros but RASTER-MODE is 0xAB) 16 14 14 1 0 Idle) (Ran Waiting 1 (size - 1))
+  -- a BLT's words in order, all but the last enabled; every other one enabled; across the ring's end, and read after it
+  pub blt-words : ran (ringOf (0x7FFF ∷ numbers)) 0 17 .state .core .registers ≡ numbers ++ (0 ∷ []) but BLT-MODE is 0
+  pub skipped-words :
+      ran (ringOf (0x2AAA ∷ numbers)) 0 17 .state .core .registers
+      ≡ 0 ∷ 2 ∷ 0 ∷ 4 ∷ 0 ∷ 6 ∷ 0 ∷ 8 ∷ 0 ∷ 10 ∷ 0 ∷ 12 ∷ 0 ∷ 14 ∷ 0 ∷ 0 ∷ 0 ∷ []
+  pub across-loads :
+      ran (ringOf (0x12 ∷ 0x34 ∷ []) but size - 14 is 0x6000) (size - 14) 3 .state
+      ≡ engineAt (zeros but CH3-WIDHI is 0x12 but BASE-OFFSET is 0x34) 16 3 3 1 0 Idle
+  -- a refused command loads nothing
+  pub refused-loads-nothing : ran (ringOf (0x8001 ∷ 0x100000AB ∷ [])) 0 17 .state ≡ engineAt zeros 16 0 17 0 23 Idle
+
+-- a state with a pointer that is not below the ring size
+abbrev pub unfitState : State
+unfitState = engine zeros 16 size 0 Idle
+
+-- the calls, and row 3
+pub record Calls : Type 0 where
+  -- "After setup all registers, pointers and the completion number are zero"; refused by 1 or 2, "a state of all zeros"
+  pub setup-fresh : setup size 16 ≡ answer (engine zeros 16 0 0 Idle) (Accepted (size - 1))
+  pub setup-refused : setup (size - 1) 16 ≡ answer (freshState 0 0) (Refused 1)
+  pub setup-rings : map (λ n. numberOf (setup n 16 .reply)) ((size - 1) ∷ size ∷ ringMost ∷ (ringMost + 1) ∷ []) ≡ 1 ∷ 0 ∷ 0 ∷ 1 ∷ []
+  pub setup-frames : map (λ n. numberOf (setup size n .reply)) (0 ∷ 1 ∷ frameMost ∷ (frameMost + 1) ∷ []) ≡ 2 ∷ 0 ∷ 0 ∷ 2 ∷ []
+  -- "The same position again does nothing."; one between the pointers is 6; asking for room
+  pub publish-again : publish (engine zeros 16 3 9 Idle) 9 ≡ answer (engine zeros 16 3 9 Idle) (Accepted (size - 7))
+  pub publish-refused : publish (engine zeros 16 3 9 Idle) 8 ≡ answer (engine zeros 16 3 9 Idle) (Refused 6)
+  pub room-asked : askRoom (engine zeros 16 3 9 Idle) ≡ answer (engine zeros 16 3 9 Idle) (Accepted (size - 7))
+  -- "Restart clears the stop number and moves read to write; all else stays."; 7 where nothing is stopped
+  pub restart-moves : restart (engineAt row 16 5 9 7 27 Idle) ≡ answer (engineAt row 16 9 9 7 0 Idle) (Accepted (size - 1))
+  pub restart-refused : restart (engineAt row 16 5 9 7 0 Idle) ≡ answer (engineAt row 16 5 9 7 0 Idle) (Refused 7)
+  -- 4: a lent ring or frame of another length
+  pub ring-lent : run (ringOf [] ++ (0 ∷ [])) (engine zeros 16 0 0 Idle) (replicate 16 0) 9 .reply ≡ Refused 4
+  pub frame-lent : run (ringOf []) (engine zeros 16 0 0 Idle) (replicate 15 0) 9 .reply ≡ Refused 4
+  -- 3 in each call; pointers, stops, a stop with a command in progress, places past the last pixel, registers that are refused
+  pub unfit-refused :
+      publish unfitState 0 ∷ run (ringOf []) unfitState (replicate 16 0) 9 ∷ restart unfitState ∷ askRoom unfitState ∷ []
+      ≡ replicate 4 (answer unfitState (Refused 3))
+  pub pointers : map unfit (engine zeros 16 (size - 1) (size - 1) Idle ∷ engine zeros 16 0 size Idle ∷ []) ≡ false ∷ true ∷ []
+  pub stops : map (λ n. unfit (engineAt zeros 16 0 0 0 n Idle)) (0 ∷ 20 ∷ 21 ∷ 28 ∷ 29 ∷ []) ≡ false ∷ true ∷ false ∷ false ∷ true ∷ []
+  pub stop-drawing : unfit (engineAt row 16 0 0 0 27 (Drawing Blt 0)) ≡ true
+  pub places : map (λ k. unfit (engine row 16 0 0 (Drawing Blt k))) (0 ∷ 3 ∷ 4 ∷ []) ≡ false ∷ false ∷ true ∷ []
+  pub judged-place : unfit (engine zeros 16 0 0 (Drawing Vector 0)) ≡ true
+
+-- eight pixels of pattern row A5h, clear 2 and set 3: RASTER_MODE 1F0h, or 5F0h with transparency; 4F0h is a solid pattern
+abbrev pub mono : ℕ → List ℕ
+mono raster =
+    zeros but RASTER-MODE is raster but WID-HEIGHT is 0x00080001 but PAT-COLOR-0 is 2 but PAT-COLOR-1 is 3 but PAT-DATA-0 is 0xA5
+
+-- the bits that 3 by 2 pixels get from Y low bits 7 and X low bits 6 of a pattern with columns 0 5 7 of row 0, 4 6 7 of row 6
+-- and 5 6 of row 7
+abbrev pub patterned : (offset mode : ℕ) → List ℕ
+patterned offset mode =
+    drawn
+    (zeros but RASTER-MODE is 0x1F0 but DST-OFFSET is 0xFB000000 + offset but STRIDE is 3 but WID-HEIGHT is 0x00030002
+    but PAT-COLOR-1 is 1 but PAT-DATA-0 is 0x00000085 but PAT-DATA-1 is 0x060B0000 but BLT-MODE is mode)
+    (replicate 6 9)
+
+-- the pixels of BLTs
+pub record Pixels : Type 0 where
+  -- "With no source selected the source value is SRC_COLOR_FG."
+  pub foreground : drawn (copy 0 0 0 but SRC-COLOR-FG is 7) (replicate 5 1) ≡ 7 ∷ 7 ∷ 7 ∷ 7 ∷ 1 ∷ []
+  -- "Source pixels go the same way with their own offset and stride": 2 by 2, source stride 3, destination stride 2
+  pub own-stride :
+      drawn (copy 0 4 0x001 but STRIDE is 0x00030002 but WID-HEIGHT is 0x00020002) (1 ∷ 2 ∷ 3 ∷ 4 ∷ 5 ∷ 6 ∷ 7 ∷ 8 ∷ [])
+      ≡ 1 ∷ 2 ∷ 3 ∷ 4 ∷ 1 ∷ 2 ∷ 4 ∷ 1 ∷ []
+  -- two bytes a pixel, 2 pixels copied one byte on with X negative; four bytes a pixel, one pixel at byte 1 by code 5Ah
+  pub two-bytes :
+      drawn (copy 2 3 0x201 but RASTER-MODE is 0x600000CC but WID-HEIGHT is 0x00020001) (1 ∷ 2 ∷ 3 ∷ 4 ∷ 5 ∷ []) ≡ 1 ∷ 1 ∷ 2 ∷ 3 ∷ 4 ∷ []
+  pub four-bytes :
+      drawn (copy 0 1 0x000 but RASTER-MODE is 0x8000005A but WID-HEIGHT is 0x00010001 but PAT-COLOR-0 is 0x01020304) (replicate 6 5)
+      ≡ 5 ∷ 1 ∷ 6 ∷ 7 ∷ 4 ∷ 5 ∷ []
+  -- "Set gives PAT_COLOR_1, clear PAT_COLOR_0; with pattern transparency a clear bit writes nothing, yet costs its unit."
+  pub mono-colours : drawn (mono 0x1F0) (replicate 8 9) ≡ 3 ∷ 2 ∷ 3 ∷ 2 ∷ 2 ∷ 3 ∷ 2 ∷ 3 ∷ []
+  pub mono-transparent : drawn (mono 0x5F0) (replicate 8 9) ≡ 3 ∷ 9 ∷ 3 ∷ 9 ∷ 9 ∷ 3 ∷ 9 ∷ 3 ∷ []
+  pub mono-units : run (ringOf []) (engine (mono 0x5F0) 8 0 0 (Drawing Blt 0)) (replicate 8 9) 99 .reply ≡ Ran Waiting 8 (size - 1)
+  -- "Transparency on a solid pattern .. [has] no effect"
+  pub solid-transparent : drawn (mono 0x4F0) (replicate 8 9) ≡ replicate 8 2
+  -- "row and column are the offset register's Y and X low bits plus the signed steps from the first pixel"
+  pub pattern-right-down : patterned 0 0x000 ≡ 1 ∷ 0 ∷ 0 ∷ 0 ∷ 1 ∷ 1 ∷ []
+  pub pattern-left-down : patterned 2 0x200 ≡ 0 ∷ 1 ∷ 1 ∷ 0 ∷ 1 ∷ 0 ∷ []
+  pub pattern-right-up : patterned 3 0x100 ≡ 1 ∷ 1 ∷ 0 ∷ 1 ∷ 0 ∷ 0 ∷ []
+  pub pattern-left-up : patterned 5 0x300 ≡ 1 ∷ 0 ∷ 1 ∷ 0 ∷ 1 ∷ 1 ∷ []
+
+-- a vector by code 3Ch (P xor S), its thirteen words in order: the marked case's terms, length 5, X negative
+abbrev pub vectorRing : List ℕ
+vectorRing = ringOf (0x20001FFF ∷ 0x3C ∷ 5 ∷ 0x0004FFFA ∷ 6 ∷ 0x0005FFFF ∷ 9 ∷ 10 ∷ 11 ∷ 12 ∷ 13 ∷ 14 ∷ 0 ∷ 4 ∷ [])
+
+abbrev pub vectorStart : State
+vectorStart = engineAt (replicate registerCount 7) 14 0 14 8 0 Idle
+
+-- the pixels of vectors
+pub record Vectors : Type 0 where
   -- an error of exactly 0 takes the diagonal step
   pub zero-error : firstSix 0 0x0004FFFA 0x00060000 6 ≡ (0, 0) ∷ (1, 1) ∷ (2, 1) ∷ (3, 1) ∷ (4, 2) ∷ (5, 2) ∷ []
   -- Y major, major direction positive, minor negative
   pub other-axis : firstSix 5 0x0004FFFA 0x0006FFFF 3 ≡ (5, 0) ∷ (5, 1) ∷ (4, 2) ∷ (4, 3) ∷ (3, 4) ∷ (3, 5) ∷ []
-  -- headers: kinds 10 and 11, reserved bits of both kinds; S has no effect; W that ends exactly at the ring's end
-  pub headers-refused :
-      map (headerRefusal 64 10) (0x40000000 ∷ 0x60000000 ∷ 0x00010000 ∷ 0x08000000 ∷ 0x20002000 ∷ 0x28000000 ∷ []) ≡ replicate 6 21
-  pub headers-taken : map (headerRefusal 64 10) (0x1000FFFF ∷ 0x30001FFF ∷ 0x80000000 ∷ []) ≡ 0 ∷ 0 ∷ 0 ∷ []
-  pub returns-at-end : headerRefusal 64 47 0x80000000 ∷ headerRefusal 64 48 0x80000000 ∷ headerRefusal 64 0 0x80000000 ∷ [] ≡ 0 ∷ 22 ∷ 22 ∷ []
-  -- a bad header stops as soon as it waits, a good one waits for its words
-  pub header-alone : run (ringFrom 0x60000000 0) (engine zeros 16 0 1 Idle) (replicate 16 0) 9 .reply ≡ Ran Stopped 1 62
-  pub part-waits : run (ringFrom 0x00000000 0) (engine zeros 16 0 16 Idle) (replicate 16 0) 9 .reply ≡ Ran Waiting 0 47
-  -- a command that only loads is one unit, and is retired by it; a vector has 14 words
-  pub only-loads : run (ringFrom 0x20000001 0xAB) (engine zeros 16 0 14 Idle) (replicate 16 0) 9 .state
-      ≡ engineAt (registersOf 0xAB 0 0 0 0 0 0) 16 14 14 1 0 Idle
-  -- a refused command loads nothing
-  pub refused-loads-nothing : run (ringFrom 0x00008001 0x100000AB) (engine zeros 16 0 17 Idle) (replicate 16 0) 9 .state
-      ≡ engineAt zeros 16 0 17 0 23 Idle
-  -- row 3: stop numbers, a stop with a command in progress, places past the last pixel, and registers that judging refuses
-  pub stops : map (λ n. unfit (engineAt zeros 16 0 0 0 n Idle)) (0 ∷ 20 ∷ 21 ∷ 28 ∷ 29 ∷ []) ≡ false ∷ true ∷ false ∷ false ∷ true ∷ []
-  pub stop-drawing : unfit (engineAt (registersOf 0xF0 0 0 0 0x00040001 0 0) 16 0 0 0 27 (Drawing Blt 0)) ≡ true
-  pub places : map (λ k. unfit (engine (registersOf 0xF0 0 0 0 0x00040001 0 0) 16 0 0 (Drawing Blt k))) (0 ∷ 3 ∷ 4 ∷ []) ≡ false ∷ false ∷ true ∷ []
-  pub judged-place : unfit (engine zeros 16 0 0 (Drawing Vector 0)) ≡ true
+  -- from its words in the ring: thirteen registers, the others as they were; its pixels, 9 xor 10
+  pub vector-words :
+      run vectorRing vectorStart (replicate 14 0) 99
+      ≡ answer
+      (engineAt (0x3C ∷ 5 ∷ 0x0004FFFA ∷ 6 ∷ 0x0005FFFF ∷ 9 ∷ 7 ∷ 10 ∷ 11 ∷ 12 ∷ 13 ∷ 7 ∷ 14 ∷ 7 ∷ 0 ∷ 7 ∷ 4 ∷ []) 14 14 14 9 0 Idle)
+      (Ran Waiting 6 (size - 1))
+  pub vector-frame :
+      runFrame vectorRing vectorStart (replicate 14 0) 99
+      ≡ 0 ∷ 0 ∷ 0 ∷ 0 ∷ 3 ∷ 3 ∷ 0 ∷ 0 ∷ 3 ∷ 3 ∷ 0 ∷ 0 ∷ 0 ∷ 3 ∷ []
+
+pub record Further : Type 0 where
+  pub extremes : Extremes
+  pub judged : Judged
+  pub commands : Commands
+  pub calls : Calls
+  pub pixels : Pixels
+  pub vectors : Vectors
 
 -- ---- a recording
 
 -- the words that a released Geode LX display driver wrote for document 01's example: 8 bpp, 4 by 2 at 10, stride 16, colour 5Ah
 abbrev pub shopRing : List ℕ
-shopRing =
-    0xF09B ∷ 0xF0 ∷ 0x0A ∷ 0x0 ∷ 0x100010 ∷ 0x40002 ∷ 0x0 ∷ 0x0 ∷ 0x5A ∷ 0x0 ∷ 0x0 ∷ 0x0 ∷ 0x0 ∷ 0x0 ∷ 0x0 ∷ 0x0 ∷ 0x0
-    ∷ replicate 47 0
+shopRing = ringOf (0xF09B ∷ 0xF0 ∷ 0x0A ∷ 0 ∷ 0x100010 ∷ 0x40002 ∷ 0 ∷ 0 ∷ 0x5A ∷ replicate 8 0)
 
 abbrev pub shopStart : State
-shopStart = publish (setup 64 64 .state) 17 .state
+shopStart = publish (setup size 64 .state) 17 .state
+
+abbrev pub shopRun : ℕ → Answer
+shopRun budget = run shopRing shopStart (replicate 64 0) budget
 
 -- "bytes 10 to 13 and 26 to 29 become 5Ah"
 abbrev pub shopFrame : List ℕ
 shopFrame = replicate 10 0 ++ replicate 4 0x5A ++ replicate 12 0 ++ replicate 4 0x5A ++ replicate 34 0
 
 pub record Recorded : Type 0 where
-  pub shop-setup : setup 64 64 .reply ≡ Accepted 63
-  pub shop-publish : publish (setup 64 64 .state) 17 .reply ≡ Accepted 46
+  pub shop-setup : setup size 64 .reply ≡ Accepted (size - 1)
+  pub shop-publish : publish (setup size 64 .state) 17 .reply ≡ Accepted (size - 18)
   -- retired=1 units=9 read=17 write=17 state=waiting refusal=0
-  pub shop-run : run shopRing shopStart (replicate 64 0) 100 .reply ≡ Ran Waiting 9 63
-  pub shop-read : run shopRing shopStart (replicate 64 0) 100 .state .core .read ≡ 17
-  pub shop-write : run shopRing shopStart (replicate 64 0) 100 .state .write ≡ 17
-  pub shop-retired : run shopRing shopStart (replicate 64 0) 100 .state .core .completion ≡ 1
+  pub shop-run : shopRun 100 .reply ≡ Ran Waiting 9 (size - 1)
+  pub shop-read : shopRun 100 .state .core .read ≡ 17
+  pub shop-write : shopRun 100 .state .write ≡ 17
+  pub shop-retired : shopRun 100 .state .core .completion ≡ 1
   pub shop-frame : runFrame shopRing shopStart (replicate 64 0) 100 ≡ shopFrame
   -- a budget that is used up, exactly at the end and before it
-  pub shop-budgets : map (λ b. run shopRing shopStart (replicate 64 0) b .reply) (0 ∷ 1 ∷ 8 ∷ 9 ∷ [])
-      ≡ Ran Spent 0 46 ∷ Ran Spent 1 63 ∷ Ran Spent 8 63 ∷ Ran Waiting 9 63 ∷ []
+  pub shop-budgets :
+      map (λ b. shopRun b .reply) (0 ∷ 1 ∷ 8 ∷ 9 ∷ [])
+      ≡ Ran Spent 0 (size - 18) ∷ Ran Spent 1 (size - 1) ∷ Ran Spent 8 (size - 1) ∷ Ran Waiting 9 (size - 1) ∷ []
   -- after the load no byte has changed yet
   pub shop-load : runFrame shopRing shopStart (replicate 64 0) 1 ≡ replicate 64 0
 
 -- ---- all of it
 
 pub cases : Cases × Further × Recorded
-unfolding patternBit patternByte patternIndex distance waiting room publishRefusal wordAt readPixel storePixel raster bltOf formatOf destinationByte sourceByte inkBit patternValue skipped sourceValue drawBlt signed16 vectorOf axialStep diagonalStep step position vectorByte drawVector kindOf badHeader badReturn headerRefusal whole loadWords loaded readAfter byteOutside some outside judge retired commandRefusal ready stopped loadedCore pixelCount drawPixel drawnCore unitAt unit possible units unfit runWord runRefusal runUnits ranAnswer run runFrame setup publish
+unfolding first any patternBit patternByte patternIndex distance waiting room wordAt readPixel storePixel raster formatOf byteOutside some outside least greatest extent pixelByte rectangleOf sourceOf patternOf bltOf sourceValue monoBit withPattern operandsAt drawOperands drawAt drawBlt signed16 vectorOf axialStep diagonalStep step position vectorByte drawVector kindOf badHeader drawnBy badReturn wholeWords readAfter loadWords loaded judge retired headerRefusal commandRefusal needed ready stopped loadedCore pixelCount drawPixel drawnCore unitAt unit possible units unfit setup publish restart askRoom runWord runRefusal runUnits ranAnswer run runFrame
 cases = (
   record {
     code-5A = λ s. raster-pattern-xor 8 0xFF s 0xF0;
@@ -231,42 +390,12 @@ cases = (
     return-read = refl;
   },
   record {
-    row-fits = refl;
-    right-down = refl;
-    left-down = refl;
-    right-up = refl;
-    left-up = refl;
-    source-bounds = refl;
-    formats-refused = refl;
-    modes-refused = refl;
-    sources-refused = refl;
-    no-effect = refl;
-    vectors-refused = refl;
-    inner-extreme = refl;
-    one-pixel = refl;
-    zero-error = refl;
-    other-axis = refl;
-    headers-refused = refl;
-    headers-taken = refl;
-    returns-at-end = refl;
-    header-alone = refl;
-    part-waits = refl;
-    only-loads = refl;
-    refused-loads-nothing = refl;
-    stops = refl;
-    stop-drawing = refl;
-    places = refl;
-    judged-place = refl;
+    extremes = record { row-fits = refl; right-down = refl; left-down = refl; right-up = refl; left-up = refl; source-bounds = refl; inner-extreme = refl; one-pixel = refl };
+    judged = record { formats-refused = refl; modes-refused = refl; sources-refused = refl; channel-3-refused = refl; base-refused = refl; sizes-refused = refl; no-effect = refl; vectors-refused = refl; vector-blt-mode = refl; vector-length = refl; vector-terms = refl };
+    commands = record { headers-refused = refl; headers-taken = refl; returns-at-end = refl; header-alone = refl; part-waits = refl; only-loads = refl; blt-words = refl; skipped-words = refl; across-loads = refl; refused-loads-nothing = refl };
+    calls = record { setup-fresh = refl; setup-refused = refl; setup-rings = refl; setup-frames = refl; publish-again = refl; publish-refused = refl; room-asked = refl; restart-moves = refl; restart-refused = refl; ring-lent = refl; frame-lent = refl; unfit-refused = refl; pointers = refl; stops = refl; stop-drawing = refl; places = refl; judged-place = refl };
+    pixels = record { foreground = refl; own-stride = refl; two-bytes = refl; four-bytes = refl; mono-colours = refl; mono-transparent = refl; mono-units = refl; solid-transparent = refl; pattern-right-down = refl; pattern-left-down = refl; pattern-right-up = refl; pattern-left-up = refl };
+    vectors = record { zero-error = refl; other-axis = refl; vector-words = refl; vector-frame = refl };
   },
-  record {
-    shop-setup = refl;
-    shop-publish = refl;
-    shop-run = refl;
-    shop-read = refl;
-    shop-write = refl;
-    shop-retired = refl;
-    shop-frame = refl;
-    shop-budgets = refl;
-    shop-load = refl;
-  },
+  record { shop-setup = refl; shop-publish = refl; shop-run = refl; shop-read = refl; shop-write = refl; shop-retired = refl; shop-frame = refl; shop-budgets = refl; shop-load = refl },
 )

@@ -1,10 +1,11 @@
 -- Tests on numbers, and the choice by a test.
-use Prim.Native.Nat.{ℕ}
+use Prim.Native.Nat.{ℕ, zero, suc, _<_}
 use mathlib.Core.Path.{_≡_, refl}
 use mathlib.Core.Bool.{Bool, true, false, _&&_, _||_}
 use mathlib.Core.Logic.{_⊎_, inl, inr}
 use native.Mathlib.Omega.{arith}
 use lib.Dec.{ltb, leb, eqb}
+use borrow.Author.Tests.{eqb-false}
 
 infix 40 _<?_ _≤?_ _=?_
 infix 5 if_then_else_
@@ -48,3 +49,12 @@ or-left a b e = rw e
 pub or-right : (a b : Bool) → b ≡ true → a || b ≡ true
 or-right true b e = refl
 or-right false b e = e
+
+pub nonzero : (n : ℕ) → n =? 0 ≡ false → 0 < n
+nonzero zero h = absurd (eqb-false 0 0 h refl)
+nonzero (suc n) h = omega arith
+
+-- what is chosen has what both have
+pub if-both : {A : Type 0} (P : A → Type 0) (test : Bool) {a b : A} → P a → P b → P (if test then a else b)
+if-both P true p q = p
+if-both P false p q = q

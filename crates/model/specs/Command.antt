@@ -1,15 +1,20 @@
--- Commands in the ring: header, kind, length, wholeness, and the loading of the enabled words (document 01, The ring; 000,
+-- Commands in the ring: header, kind, length, what is drawn, wholeness, and the loading of the enabled words (document 01, The ring; 000,
 -- Tables 6-8, 6-9 and 6-12).
 use Prim.Native.Nat.{ℕ, _+_, _-_, _%_}
 use mathlib.Core.Bool.{Bool, true, not, _&&_, _||_}
 use mathlib.Core.List.{List, [], _∷_}
 use lib.ListN.{length, set}
-use Rattle.model.specs.Choice.{_<?_, _≤?_, _=?_, if_then_else_}
+use Rattle.model.specs.Choice.{_<?_, _=?_, if_then_else_}
+use Rattle.model.specs.Refusals.{Rule, _when_}
 use Rattle.model.specs.Bits.{set?, field}
 use Rattle.model.specs.Registers.{RASTER-MODE, DST-OFFSET, SRC-OFFSET, STRIDE, WID-HEIGHT, SRC-COLOR-FG, SRC-COLOR-BG, PAT-COLOR-0, PAT-COLOR-1, PAT-DATA-0, PAT-DATA-1, CH3-OFFSET, CH3-MODE-STR, CH3-WIDHI, BASE-OFFSET, BLT-MODE, VECTOR-MODE, VEC-ERR, VEC-LEN}
-use Rattle.model.specs.Ring.{waiting, wordAt}
+use Rattle.model.specs.Ring.{wordAt}
+use Rattle.model.specs.declared.Drawn.{Drawn}
+use Rattle.model.specs.declared.Drawn.the-variants.{Nothing, Draws}
 use Rattle.model.specs.declared.Kind.{Kind}
 use Rattle.model.specs.declared.Kind.the-variants.{Blt, Vector}
+use Rattle.model.specs.declared.Primitive.{Primitive}
+use Rattle.model.specs.declared.Primitive.the-variants.{Blt as BltPrimitive, Vector as VectorPrimitive}
 
 -- ---- the header
 
@@ -44,25 +49,35 @@ wordRegisters Vector =
 abbrev pub commandLength : Kind → ℕ
 commandLength kind = 1 + length (wordRegisters kind)
 
--- "If the last enable (BLT 15, vector 12) is clear, the command only loads its enabled registers."
-abbrev pub draws : ℕ → Bool
-draws header = set? header (length (wordRegisters (kindOf header)) - 1)
+-- ---- what it draws
 
--- ---- waiting for a command
+abbrev pub primitiveOf : Kind → Primitive
+primitiveOf Blt = BltPrimitive
+primitiveOf Vector = VectorPrimitive
+
+-- "If the last enable (BLT 15, vector 12) is clear, the command only loads its enabled registers."
+unfoldable pub drawnBy : ℕ → Drawn
+drawnBy header =
+    if set? header (length (wordRegisters (kindOf header)) - 1) then Draws (primitiveOf (kindOf header)) else Nothing
+
+-- ---- waiting for a command of so many words, with W or without
 
 -- 22: "W on a command that begins at ring word 0, or whose words run across the end"
-unfoldable pub badReturn : ℕ → ℕ → ℕ → Bool
-badReturn size read header = returns header && (read =? 0 || size <? read + commandLength (kindOf header))
+unfoldable pub badReturn : (size read length : ℕ) → Bool → Bool
+badReturn size read length w = w && (read =? 0 || size <? read + length)
 
--- the number that the header alone gives, or 0: 21 before 22
-unfoldable pub headerRefusal : ℕ → ℕ → ℕ → ℕ
-headerRefusal size read header = if badHeader header then 21 else if badReturn size read header then 22 else 0
+-- the rules that the header alone decides
+abbrev pub headerRules : (size read header length : ℕ) → List Rule
+headerRules size read header length =
+    21 when badHeader header ∷ 22 when badReturn size read length (returns header) ∷ []
 
--- "It is whole when all its words wait and, with W, when the words waiting also reach the ring's end."
-unfoldable pub whole : ℕ → ℕ → ℕ → ℕ → Bool
-whole size read write header =
-    commandLength (kindOf header) ≤? waiting size read write
-    && (not (returns header) || size - read ≤? waiting size read write)
+-- "It is whole when all its words wait and, with W, when the words waiting also reach the ring's end": so many must wait
+unfoldable pub wholeWords : (size read length : ℕ) → Bool → ℕ
+wholeWords size read length w = if w && length <? size - read then size - read else length
+
+-- "After it, read moves past it, or to 0 with W"
+unfoldable pub readAfter : (size read length : ℕ) → Bool → ℕ
+readAfter size read length w = if w then 0 else (read + length) % size
 
 -- ---- loading
 
@@ -77,7 +92,3 @@ loadWords ring read header (r ∷ rest) i registers =
 -- the registers as they would be after loading the command at `read`
 unfoldable pub loaded : List ℕ → ℕ → ℕ → List ℕ → List ℕ
 loaded ring read header registers = loadWords ring read header (wordRegisters (kindOf header)) 0 registers
-
--- "After it, read moves past it, or to 0 with W"
-unfoldable pub readAfter : ℕ → ℕ → ℕ → ℕ
-readAfter size read header = if returns header then 0 else (read + commandLength (kindOf header)) % size

@@ -1,4 +1,5 @@
 pub mod Choice
+pub mod Refusals
 pub mod Bits
 pub mod Limits
 pub mod Registers
@@ -9,6 +10,8 @@ pub mod Raster
 pub mod Pattern
 pub mod Completion
 pub mod Bounds
+pub mod Rectangle
+pub mod Operands
 pub mod BltPixel
 pub mod VectorPixel
 pub mod Command

@@ -1,5 +1,6 @@
 -- The ranges that document 01 names: "a lent run of 1 to 16,777,216 bytes", "a lent run of 64 to 16,384 words of 32 bits", "a
--- budget of 0 to 4,294,967,295 units"; and the largest width, height and vector length, fields of 12 bits each (000).
+-- budget of 0 to 4,294,967,295 units"; the numbers that stop the engine, "21 and above in this table"; and the largest width,
+-- height and vector length, fields of 12 bits each (000).
 use Prim.Native.Nat.{ℕ}
 
 abbrev pub ringLeast : ℕ
@@ -16,3 +17,9 @@ budgetMost = 4_294_967_295
 
 abbrev pub sideMost : ℕ
 sideMost = 4_095
+
+abbrev pub stopLeast : ℕ
+stopLeast = 21
+
+abbrev pub stopMost : ℕ
+stopMost = 28

@@ -37,8 +37,8 @@ unfolding patternBit patternByte
 example-bits = (refl, refl)
 
 -- back from 0: 0 7 6 5; further from 6: 6 7 0 1
-pub places :
+pub indices :
     (map (patternIndex true 0) (0 ∷ 1 ∷ 2 ∷ 3 ∷ []) ≡ 0 ∷ 7 ∷ 6 ∷ 5 ∷ [])
     × (map (patternIndex false 6) (0 ∷ 1 ∷ 2 ∷ 3 ∷ []) ≡ 6 ∷ 7 ∷ 0 ∷ 1 ∷ [])
 unfolding patternIndex
-places = (refl, refl)
+indices = (refl, refl)

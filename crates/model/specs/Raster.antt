@@ -18,7 +18,7 @@ raster (suc m) code p s d = chosenBit code (p % 2) (s % 2) (d % 2) + 2 * raster 
 -- ---- laws
 
 chosen-lt : (code p s d : ℕ) → chosenBit code p s d < 2
-chosen-lt code p s d = mod-lt (code / 2 ^ (4 * p + 2 * s + d)) (omega arith)
+chosen-lt code p s d = mod-lt _ (omega arith)
 
 pub raster-odd : (m code p s d : ℕ) → raster (suc m) code p s d % 2 ≡ chosenBit code (p % 2) (s % 2) (d % 2)
 unfolding raster

@@ -2,11 +2,13 @@
 -- ring). Pointers count words from the ring's first word and are below its size.
 use Prim.Native.Nat.{ℕ, _+_, _-_, _%_, _<_}
 use mathlib.Core.Path.{_≡_, refl, ap, _∙_}
+use mathlib.Core.Bool.{not}
 use mathlib.Core.List.{List, [], _∷_}
 use native.Mathlib.Omega.{arith}
 use native.Mathlib.Nat.{mod-self, mod-lt, mod-eq-of-lt, add-mod-mod, add-mod-right}
 use lib.ListN.{length, getD}
-use Rattle.model.specs.Choice.{_<?_, _≤?_, if_then_else_}
+use Rattle.model.specs.Choice.{_<?_, _≤?_}
+use Rattle.model.specs.Refusals.{Rule, _when_, first}
 
 -- (to - from) modulo the ring size; the size is added so that the difference is not below 0
 unfoldable pub distance : ℕ → ℕ → ℕ → ℕ
@@ -21,10 +23,10 @@ unfoldable pub room : ℕ → ℕ → ℕ → ℕ
 room size read write = size - 1 - waiting size read write
 
 -- "Publishing position p is accepted exactly when p is below the ring size and (p - read) modulo size is at least the words
--- waiting": 5 where the first fails, else 6 where the second fails, else 0
-unfoldable pub publishRefusal : ℕ → ℕ → ℕ → ℕ → ℕ
-publishRefusal size read write p =
-    if p <? size then (if waiting size read write ≤? distance size read p then 0 else 6) else 5
+-- waiting": 5 "position not below ring size", 6 "position accepted by 5 but not by the ring rule"
+abbrev pub positionRules : ℕ → ℕ → ℕ → ℕ → List Rule
+positionRules size read write p =
+    5 when not (p <? size) ∷ 6 when not (waiting size read write ≤? distance size read p) ∷ []
 
 -- word number i from position `at`, "read by wrapped position"
 unfoldable pub wordAt : List ℕ → ℕ → ℕ → ℕ
@@ -53,14 +55,17 @@ pub empty : (size p : ℕ) → waiting size p p ≡ 0
 unfolding waiting distance
 empty size p = let e : p + size - p ≡ size = omega arith in ap (λ (x : ℕ). x % size) e ∙ mod-self size
 
+abbrev publishes : ℕ → ℕ → ℕ → ℕ → ℕ
+publishes size read write p = first (positionRules size read write p)
+
 -- the write position again is accepted, a position beyond the ring is 5, and one between the pointers is 6
 pub publishing :
-    (publishRefusal 64 20 40 40 ≡ 0)
-    × (publishRefusal 64 20 40 19 ≡ 0)
-    × (publishRefusal 64 20 40 64 ≡ 5)
-    × (publishRefusal 64 20 40 39 ≡ 6)
-    × (publishRefusal 64 20 40 20 ≡ 6)
-unfolding publishRefusal waiting distance
+    (publishes 64 20 40 40 ≡ 0)
+    × (publishes 64 20 40 19 ≡ 0)
+    × (publishes 64 20 40 64 ≡ 5)
+    × (publishes 64 20 40 39 ≡ 6)
+    × (publishes 64 20 40 20 ≡ 6)
+unfolding first waiting distance
 publishing = (refl, refl, refl, refl, refl)
 
 -- past the last word comes word 0

@@ -1,18 +1,22 @@
 -- One unit of work, and n of them (document 01, Units, and how a run ends).
-use Prim.Native.Nat.{ℕ, zero, suc, _+_, _*_}
-use mathlib.Core.Bool.{Bool, true, false, not, _&&_, _||_}
-use mathlib.Core.List.{List}
+use Prim.Native.Nat.{ℕ, zero, suc, _+_}
+use mathlib.Core.Bool.{Bool, true, false, _&&_, _||_}
+use mathlib.Core.List.{List, [], _∷_, _++_}
 use lib.ListN.{getD}
 use Rattle.model.specs.Choice.{_≤?_, _=?_, if_then_else_}
+use Rattle.model.specs.Refusals.{Rule, first}
 use Rattle.model.specs.Ring.{waiting}
 use Rattle.model.specs.Completion.{retired}
-use Rattle.model.specs.Command.{kindOf, draws, headerRefusal, whole, loaded, readAfter}
-use Rattle.model.specs.Judging.{judge}
+use Rattle.model.specs.Rectangle.{pixelsOf}
+use Rattle.model.specs.Command.{returns, kindOf, commandLength, drawnBy, headerRules, wholeWords, readAfter, loaded}
+use Rattle.model.specs.Judging.{judgeRules}
 use Rattle.model.specs.BltPixel.{bltOf, drawBlt}
 use Rattle.model.specs.VectorPixel.{vectorOf, drawVector}
 use Rattle.model.specs.declared.Core.{Core}
-use Rattle.model.specs.declared.Kind.{Kind}
-use Rattle.model.specs.declared.Kind.the-variants.{Blt, Vector}
+use Rattle.model.specs.declared.Drawn.{Drawn}
+use Rattle.model.specs.declared.Drawn.the-variants.{Nothing, Draws}
+use Rattle.model.specs.declared.Primitive.{Primitive}
+use Rattle.model.specs.declared.Primitive.the-variants.{Blt, Vector}
 use Rattle.model.specs.declared.Place.{Place}
 use Rattle.model.specs.declared.Place.the-variants.{Idle, Drawing}
 
@@ -29,21 +33,38 @@ headerAt ring c = getD ring (c .read) 0
 abbrev pub loadedAt : List ℕ → Core → List ℕ
 loadedAt ring c = loaded ring (c .read) (headerAt ring c) (c .registers)
 
--- the number that refuses it, or 0. "23 to 28 only for commands that draw, on the registers as they would be after loading"
-unfoldable pub commandRefusal : List ℕ → Core → ℕ
-commandRefusal ring c =
-    let header = headerAt ring c in
-    let first = headerRefusal (c .ringlength) (c .read) header in
-    if not (first =? 0) then first
-    else if draws header then judge (kindOf header) (loadedAt ring c) (c .framelength)
-    else 0
+-- its length, and its W
+abbrev pub lengthAt : List ℕ → Core → ℕ
+lengthAt ring c = commandLength (kindOf (headerAt ring c))
 
--- "21 and 22 are judged as soon as the header waits, the others when the command is whole": it can be loaded or refused
+abbrev pub returnsAt : List ℕ → Core → Bool
+returnsAt ring c = returns (headerAt ring c)
+
+-- 21 and 22 of its header
+unfoldable pub headerRefusal : List ℕ → Core → ℕ
+headerRefusal ring c = first (headerRules (c .ringlength) (c .read) (headerAt ring c) (lengthAt ring c))
+
+-- "23 to 28 only for commands that draw, on the registers as they would be after loading"
+abbrev pub drawnRules : Drawn → List ℕ → ℕ → List Rule
+drawnRules Nothing registers framelength = []
+drawnRules (Draws primitive) registers framelength = judgeRules primitive registers framelength
+
+abbrev pub commandRules : List ℕ → Core → List Rule
+commandRules ring c =
+    headerRules (c .ringlength) (c .read) (headerAt ring c) (lengthAt ring c)
+    ++ drawnRules (drawnBy (headerAt ring c)) (loadedAt ring c) (c .framelength)
+
+unfoldable pub commandRefusal : List ℕ → Core → ℕ
+commandRefusal ring c = first (commandRules ring c)
+
+-- "21 and 22 are judged as soon as the header waits, the others when the command is whole": the words that must wait before
+-- it can be loaded or refused
+unfoldable pub needed : List ℕ → Core → ℕ
+needed ring c =
+    if headerRefusal ring c =? 0 then wholeWords (c .ringlength) (c .read) (lengthAt ring c) (returnsAt ring c) else 1
+
 unfoldable pub ready : List ℕ → Core → ℕ → Bool
-ready ring c write =
-    1 ≤? waiting (c .ringlength) (c .read) write
-    && (not (headerRefusal (c .ringlength) (c .read) (headerAt ring c) =? 0)
-    || whole (c .ringlength) (c .read) write (headerAt ring c))
+ready ring c write = needed ring c ≤? waiting (c .ringlength) (c .read) write
 
 -- "Refusing a command costs one unit and moves nothing but the stop number"
 unfoldable pub stopped : Core → ℕ → Core
@@ -57,36 +78,45 @@ stopped c number = record {
   place = c .place;
 }
 
--- "Loading moves the read pointer and enabled registers. A command is retired .. by its load if it draws nothing"
+-- "A command is retired by its last pixel, or by its load if it draws nothing"
+abbrev pub completionAfter : Drawn → ℕ → ℕ
+completionAfter Nothing completion = retired completion
+completionAfter (Draws primitive) completion = completion
+
+abbrev pub placeAfter : Drawn → Place
+placeAfter Nothing = Idle
+placeAfter (Draws primitive) = Drawing primitive 0
+
+-- "Loading moves the read pointer and enabled registers."
 unfoldable pub loadedCore : List ℕ → Core → Core
 loadedCore ring c =
-    let header = headerAt ring c in
+    let drawn = drawnBy (headerAt ring c) in
     record {
       registers = loadedAt ring c;
-      read = readAfter (c .ringlength) (c .read) header;
+      read = readAfter (c .ringlength) (c .read) (lengthAt ring c) (returnsAt ring c);
       ringlength = c .ringlength;
       framelength = c .framelength;
-      completion = if draws header then c .completion else retired (c .completion);
+      completion = completionAfter drawn (c .completion);
       stop = c .stop;
-      place = if draws header then Drawing (kindOf header) 0 else Idle;
+      place = placeAfter drawn;
     }
 
 -- ---- the command that is being drawn
 
 -- how many pixels it has: "LENGTH pixels are drawn" of a vector
-unfoldable pub pixelCount : Kind → List ℕ → ℕ
-pixelCount Blt registers = bltOf registers .width * bltOf registers .height
+unfoldable pub pixelCount : Primitive → List ℕ → ℕ
+pixelCount Blt registers = pixelsOf (bltOf registers .destination)
 pixelCount Vector registers = vectorOf registers .length
 
 -- frame memory after its pixel number k
-unfoldable pub drawPixel : Kind → List ℕ → ℕ → List ℕ → List ℕ
+unfoldable pub drawPixel : Primitive → List ℕ → ℕ → List ℕ → List ℕ
 drawPixel Blt registers k frame = drawBlt (bltOf registers) k frame
 drawPixel Vector registers k frame = drawVector (vectorOf registers) k frame
 
 -- the core once k of its pixels are drawn: "a command is retired by its last pixel"
-unfoldable pub drawnCore : Core → Kind → ℕ → Core
-drawnCore c kind k =
-    let last = pixelCount kind (c .registers) ≤? k in
+unfoldable pub drawnCore : Core → Primitive → ℕ → Core
+drawnCore c primitive k =
+    let last = pixelCount primitive (c .registers) ≤? k in
     record {
       registers = c .registers;
       read = c .read;
@@ -94,7 +124,7 @@ drawnCore c kind k =
       framelength = c .framelength;
       completion = if last then retired (c .completion) else c .completion;
       stop = c .stop;
-      place = if last then Idle else Drawing kind k;
+      place = if last then Idle else Drawing primitive k;
     }
 
 -- ---- units
@@ -104,8 +134,8 @@ unfoldable pub unitAt : List ℕ → Place → Machine → Machine
 unitAt ring Idle m =
     if commandRefusal ring (m .core) =? 0 then record { core = loadedCore ring (m .core); frame = m .frame }
     else record { core = stopped (m .core) (commandRefusal ring (m .core)); frame = m .frame }
-unitAt ring (Drawing kind k) m =
-    record { core = drawnCore (m .core) kind (k + 1); frame = drawPixel kind (m .core .registers) k (m .frame) }
+unitAt ring (Drawing primitive k) m =
+    record { core = drawnCore (m .core) primitive (k + 1); frame = drawPixel primitive (m .core .registers) k (m .frame) }
 
 unfoldable pub unit : List ℕ → Machine → Machine
 unit ring m = unitAt ring (m .core .place) m
@@ -118,7 +148,7 @@ times ring (suc n) m = times ring n (unit ring m)
 -- whether a further unit can be done, with the write pointer at `write`
 abbrev pub drawing : Place → Bool
 drawing Idle = false
-drawing (Drawing kind k) = true
+drawing (Drawing primitive k) = true
 
 unfoldable pub possible : List ℕ → Core → ℕ → Bool
 possible ring c write = (c .stop =? 0) && (drawing (c .place) || ready ring c write)

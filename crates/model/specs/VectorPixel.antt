@@ -1,5 +1,5 @@
 -- "A vector pixel" (document 01): the pixels of a vector, in the order in which they are drawn.
-use Prim.Native.Nat.{ℕ, zero, suc, _+_, _*_}
+use Prim.Native.Nat.{ℕ, zero, suc, _+_}
 use mathlib.Core.Bool.{Bool}
 use mathlib.Core.List.{List}
 use lib.IntN.{ℤ, pos, _+ℤ_, _-ℤ_}
@@ -7,9 +7,10 @@ use lib.Signed.{ltZ}
 use Rattle.model.specs.Choice.{_<?_, if_then_else_}
 use Rattle.model.specs.Registers.{word, SRC-COLOR-FG, PAT-COLOR-0, formatCode, rasterCode, destinationOffset, axialField, diagonalField, destinationStride, vectorLength, initialField, minorPositive, majorPositive, yMajor}
 use Rattle.model.specs.Formats.{formatOf, depthOf}
-use Rattle.model.specs.Bounds.{firstByte, outside}
-use Rattle.model.specs.Pixel.{readPixel, storePixel}
-use Rattle.model.specs.Raster.{raster}
+use Rattle.model.specs.Bounds.{firstByte, outside, extent}
+use Rattle.model.specs.Operands.{drawOperands}
+use Rattle.model.specs.declared.Extent.{Extent}
+use Rattle.model.specs.declared.Operands.the-variants.{Values}
 use Rattle.model.specs.declared.Vector.{Vector}
 use Rattle.model.specs.declared.Position.{Position}
 
@@ -74,6 +75,11 @@ abbrev pub vectorOutside : ℕ → Vector → Bool
 vectorOutside framelength v =
     outside framelength (v .depth) (v .length) (v .offset) (λ k. position v k .plus) (λ k. position v k .minus)
 
+-- and where they lie
+abbrev pub vectorExtent : ℕ → Vector → Extent
+vectorExtent framelength v =
+    extent framelength (v .depth) (v .length) (v .offset) (λ k. position v k .plus) (λ k. position v k .minus)
+
 -- the first byte of pixel k
 unfoldable pub vectorByte : Vector → ℕ → ℕ
 vectorByte v k = firstByte (v .offset) (position v k .plus) (position v k .minus)
@@ -81,5 +87,4 @@ vectorByte v k = firstByte (v .offset) (position v k .plus) (position v k .minus
 -- "Source is SRC_COLOR_FG, pattern PAT_COLOR_0; the raster rule and destination reads are a BLT's."
 unfoldable pub drawVector : Vector → ℕ → List ℕ → List ℕ
 drawVector v k frame =
-    storePixel (v .depth) frame (vectorByte v k)
-    (raster (8 * v .depth) (v .code) (v .color) (v .foreground) (readPixel (v .depth) frame (vectorByte v k)))
+    drawOperands (v .depth) (v .code) (vectorByte v k) (Values (v .color) (v .foreground)) frame

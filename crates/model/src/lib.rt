@@ -1,28 +1,91 @@
 // The types that every crate shares. What they mean is in specs/, a file for each part of the rules.
 
+// ---- limits, and the registers by their numbers (specs/Limits and specs/Registers have the same)
+
+pub const RING_LEAST: usize = 64;
+
+pub const RING_MOST: usize = 16384;
+
+pub const FRAME_MOST: usize = 16777216;
+
+pub const STOP_LEAST: u32 = 21;
+
+pub const STOP_MOST: u32 = 28;
+
+pub const REGISTERS: usize = 17;
+
+pub const RASTER_MODE: usize = 0;
+
+pub const DST_OFFSET: usize = 1;
+
+pub const SRC_OFFSET: usize = 2;
+
+pub const STRIDE: usize = 3;
+
+pub const WID_HEIGHT: usize = 4;
+
+pub const SRC_COLOR_FG: usize = 5;
+
+pub const PAT_COLOR_0: usize = 7;
+
+pub const PAT_COLOR_1: usize = 8;
+
+pub const PAT_DATA_0: usize = 9;
+
+pub const PAT_DATA_1: usize = 10;
+
+pub const CH3_MODE_STR: usize = 12;
+
+pub const BASE_OFFSET: usize = 14;
+
+pub const BLT_MODE: usize = 15;
+
+pub const VECTOR_MODE: usize = 16;
+
+// Two names of one register each.
+pub const VEC_ERR: usize = SRC_OFFSET;
+
+pub const VEC_LEN: usize = WID_HEIGHT;
+
+// ---- what the registers and headers say
+
 // The decision on a colour format's code: its bytes a pixel, or refusal.
 pub enum Format {
     Bytes(usize),
     Refused,
 }
 
-// The kinds of command that are carried.
+// The kind of a command, as its header gives it.
 pub enum Kind {
     Blt,
     Vector,
 }
 
-// The place in a command that is being drawn: none, or the command's kind and how many of its pixels are drawn already.
+// What can be drawn.
+pub enum Primitive {
+    Blt,
+    Vector,
+}
+
+// What a command draws, if it draws.
+pub enum Drawn {
+    Nothing,
+    Draws(Primitive),
+}
+
+// ---- the engine state
+
+// The place in a command that is being drawn: none, or what is drawn and how many of its pixels are drawn already.
 // Everything else of the place follows from the registers.
 pub enum Place {
     Idle,
-    Drawing(Kind, usize),
+    Drawing(Primitive, usize),
 }
 
 // The engine state without the write pointer. One unit of work looks at this, and never at the write pointer.
 pub struct Core {
     // in the order of specs/Registers
-    pub registers: [u32; 17],
+    pub registers: [u32; REGISTERS],
     pub read: usize,
     // the ring's length in words, frame memory's in bytes
     pub ringlength: usize,
@@ -38,6 +101,8 @@ pub struct State {
     pub core: Core,
     pub write: usize,
 }
+
+// ---- answers
 
 // Where pixels lie in frame memory: their lowest and their highest byte, or some byte of one outside.
 pub enum Extent {
@@ -71,34 +136,59 @@ pub struct Answer {
     pub reply: Reply,
 }
 
-// A BLT as its registers describe it: what its pixels read.
-pub struct Blt {
-    // bytes a pixel; size in pixels
-    pub depth: usize,
-    pub width: usize,
-    pub height: usize,
-    // X negative, Y negative
-    pub left: bool,
-    pub up: bool,
-    // destination
+// ---- what is drawn
+
+// One axis of a rectangle of pixels: how many there are along it, the bytes of a step, and whether it goes back.
+pub struct Axis {
+    pub count: usize,
+    pub step: usize,
+    pub negative: bool,
+}
+
+// Pixels in frame memory: where the first one drawn lies, bytes a pixel, and the two axes.
+pub struct Rectangle {
     pub offset: usize,
-    pub stride: usize,
-    // source: whether it is frame memory, where it lies there, and the value where it is not
-    pub reads: bool,
-    pub srcoffset: usize,
-    pub srcstride: usize,
-    pub foreground: u32,
-    // raster operation
-    pub code: u32,
-    // pattern: mono or solid, with transparency, its colours and data, and the row and column of the first pixel
-    pub mono: bool,
-    pub transparent: bool,
-    pub color0: u32,
-    pub color1: u32,
+    pub depth: usize,
+    pub columns: Axis,
+    pub rows: Axis,
+}
+
+// Where a BLT's source values come from: none is selected and all are one colour, or a rectangle of frame memory.
+pub enum Source {
+    Unselected(u32),
+    Frame(Rectangle),
+}
+
+// A mono pattern: its eight rows, the row and column of the first pixel, the colours of a clear and a set bit, and whether a
+// clear bit writes nothing.
+pub struct MonoPattern {
     pub data0: u32,
     pub data1: u32,
     pub row: usize,
     pub column: usize,
+    pub color0: u32,
+    pub color1: u32,
+    pub transparent: bool,
+}
+
+// Where a BLT's pattern values come from: one colour, or a mono pattern.
+pub enum Pattern {
+    Solid(u32),
+    Mono(MonoPattern),
+}
+
+// What a pixel gets beside what stands there: nothing is written, or a pattern and a source value are combined with it.
+pub enum Operands {
+    Nothing,
+    Values { pattern: u32, source: u32 },
+}
+
+// A BLT as its registers describe it, with its raster operation.
+pub struct Blt {
+    pub destination: Rectangle,
+    pub source: Source,
+    pub pattern: Pattern,
+    pub code: u32,
 }
 
 // A vector as its registers describe it.
@@ -113,7 +203,7 @@ pub struct Vector {
     pub axial: i16,
     pub diagonal: i16,
     pub initial: i16,
-    // Y is the major axis; the major and the minor direction are positive
+    // whether Y is the major axis, and whether the major and the minor direction are positive
     pub ymajor: bool,
     pub majorpositive: bool,
     pub minorpositive: bool,

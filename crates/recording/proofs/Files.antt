@@ -1,134 +1,87 @@
--- A recording in a buffer that becomes frame memory.
-use Prim.Native.Nat.{ℕ, _+_, _*_, _≤_}
+-- A recording that is not bad, in a buffer that becomes frame memory.
+use Prim.Native.Nat.{ℕ, _+_, _*_, _≤_, _<_}
 use mathlib.Core.Path.{_≡_, refl, sym, ap, _∙_}
-use mathlib.Core.Bool.{Bool, true, false}
-use mathlib.Core.List.{List, [], _++_}
+use mathlib.Core.Bool.{Bool, true, false, not}
+use mathlib.Core.List.{List, _++_}
 use native.Mathlib.Omega.{arith}
-use lib.ListN.{length, take, drop, replicate, length-append, length-replicate}
-use lib.Seq.{take-at}
-use Rattle.model.specs.Choice.{_=?_, if_then_else_, not-both}
-use Rattle.model.specs.Calls.{numberOf, setup, refused, freshState}
+use lib.ListN.{length, take, drop, replicate, length-replicate}
+use lib.Seq.{take-at, length-front}
+use borrow.Author.Tests.{ne-eqb}
+use Rattle.io.specs.Counts.{Counts}
+use Rattle.model.specs.Choice.{or-right}
 use Rattle.model.specs.declared.Answer.{Answer}
+use Rattle.text.specs.Buffers.{Holds, holds}
 use Rattle.recording.specs.Parts.{part-length, take-zeros}
-use Rattle.recording.specs.Replay.{replay, replayFrame}
-use Rattle.recording.specs.Recording.{fileWords, length-words, badRecording, ringlengthOf, framelengthOf, writeOf, budgetOf, ringOf, frameSize, headOf, replayed, replayedFrame, outcomeOf, frameBytes, Good, good, bad-head}
+use Rattle.recording.specs.Replay.{ringLimit, frameLimit, badLengths, isRefused, replay, replayFrame}
+use Rattle.recording.specs.Recording.{fileWords, length-words, headOf, ringOf, badRecording, Loaded, zeroed, replayed, replayedFrame, made, frameSize, frameBytes, good}
 use Rattle.recording.specs.declared.Head.{Head}
 
--- ---- a file whose head is not bad
+-- too short for its first words
+pub short-bad : (file : List ℕ) → length file < 16 → badRecording file ≡ true
+unfolding badRecording
+short-bad file h =
+    let other : length file ≡ 4 * (4 + headOf file .ringlength) → ⊥ = λ e. omega arith in
+    or-right (badLengths (headOf file .ringlength) (headOf file .framelength)) _ (ap not (ne-eqb _ _ other))
 
-module _ (file : List ℕ) (head : Head) (is : head ≡ headOf file) (fine : head .bad ≡ false) where
-  pub fine-file : badRecording file ≡ false
-  fine-file = go (badRecording file) refl
-    where
-      go : (b : Bool) → badRecording file ≡ b → badRecording file ≡ false
-      go false e = e
-      go true e = absurd (not-both true refl (sym (ap (λ (h : Head). h .bad) (is ∙ bad-head file e)) ∙ fine))
+counts : (n : ℕ) (xs : List ℕ) → n ≤ length xs → Counts n xs
+counts n xs h = (h, part-length n xs h)
 
-  pub good-file : Good file
-  good-file = good file fine-file
+module _ (file : List ℕ) (fine : badRecording file ≡ false) where
+  -- its first words are there
+  pub whole : 16 ≤ length file
+  whole = omega (arith, good file fine .length-is)
 
-  pub head-words : head ≡ record {
-    bad = false;
-    ringlength = ringlengthOf file;
-    framelength = framelengthOf file;
-    write = writeOf file;
-    budget = budgetOf file;
-  }
-  head-words = is ∙ good-file .head-is
+  -- its frame memory fits into a buffer
+  pub frame-in : (memory : List ℕ) → frameLimit ≤ length memory → Counts (headOf file .framelength) memory
+  frame-in memory room = counts _ memory (omega (arith, good file fine .frame-most))
 
-  pub ringlength-is : head .ringlength ≡ ringlengthOf file
-  ringlength-is = ap (λ (h : Head). h .ringlength) head-words
+  -- and so does its ring
+  module _ (buffer : List ℕ) (room : ringLimit ≤ length buffer) where
+    abbrev count : ℕ
+    count = headOf file .ringlength
 
-  pub framelength-is : head .framelength ≡ framelengthOf file
-  framelength-is = ap (λ (h : Head). h .framelength) head-words
+    pub ring-in : Counts count buffer
+    ring-in = counts count buffer (omega (arith, good file fine .ring-most))
 
-  -- its ring fits in a buffer; filled with the file's words, the buffer begins with the ring
-  module _ (buffer : List ℕ) (room : 4096 ≤ length buffer) where
-    pub ring-in : head .ringlength ≤ length buffer
-    ring-in = omega (arith, good-file .ring-most, ringlength-is)
+    pub words-in : 4 * (4 + length (take count buffer)) ≤ length file
+    words-in = omega (arith, good file fine .length-is, ring-in .1)
 
-    pub words-in : 4 * (4 + length (take (head .ringlength) buffer)) ≤ length file
-    words-in = omega (arith, good-file .length-is, ringlength-is, part-length (head .ringlength) buffer ring-in)
+    -- the ring, read into the first part of a buffer, and frame memory, in one of zeros
+    pub loaded : (words memory zeros : List ℕ) → frameLimit ≤ length memory
+        → words ≡ fileWords file 4 (length (take count buffer)) → zeros ≡ replicate (length memory) 0
+        → Loaded file (words ++ drop count buffer) zeros (headOf file)
+    loaded words memory zeros frame-room words-are zeros-are =
+        let is : words ≡ ringOf file = words-are ∙ ap (fileWords file 4) (sym (ring-in .1)) in
+        let size : length words ≡ count = ap length is ∙ length-words file count 4 in
+        let same = length-front buffer words count (size ∙ ring-in .1) in
+        let room-for : length memory ≡ length zeros = sym (ap length zeros-are ∙ length-replicate (length memory) 0) in
+        record {
+          head-is = refl;
+          ring-in = counts count _ (omega (arith, ring-in .0));
+          ring-is = take-at words (drop count buffer) count size ∙ is;
+          frame-in = frame-in zeros (omega arith);
+          frame-is = rw zeros-are (take-zeros _ (length memory) (frame-in memory frame-room .0));
+        }
 
-    module _ (words : List ℕ) (words-are : words ≡ fileWords file 4 (length (take (head .ringlength) buffer))) where
-      ring-words : words ≡ fileWords file 4 (head .ringlength)
-      ring-words = words-are ∙ ap (fileWords file 4) (sym (part-length (head .ringlength) buffer ring-in))
+-- a replay of what is loaded
+module _ (file ring memory : List ℕ) (head : Head) (l : Loaded file ring memory head) (answer : Answer) (after rest : List ℕ) where
+  pub played-is : length after ≡ length (take (head .framelength) memory)
+      → (answer ≡ replay (take (head .ringlength) ring) (take (head .framelength) memory) (head .write) (head .budget))
+      × (after ≡ replayFrame (take (head .ringlength) ring) (take (head .framelength) memory) (head .write) (head .budget))
+      → (answer ≡ replayed file) × (take (headOf file .framelength) (after ++ rest) ≡ replayedFrame file)
+  unfolding replayed replayedFrame
+  played-is same e = (
+    e .0 ∙ rw (l .ring-is, l .frame-is, l .head-is),
+    take-at after rest (headOf file .framelength) (same ∙ ap length (l .frame-is) ∙ length-replicate (headOf file .framelength) 0)
+        ∙ e .1 ∙ rw (l .ring-is, l .frame-is, l .head-is),
+  )
 
-      ring-length : length words ≡ head .ringlength
-      ring-length = ap length ring-words ∙ length-words file (head .ringlength) 4
-
-      pub filled-in : head .ringlength ≤ length (words ++ drop (head .ringlength) buffer)
-      filled-in = omega (arith, ring-length, length-append words (drop (head .ringlength) buffer))
-
-      pub filled-is : take (head .ringlength) (words ++ drop (head .ringlength) buffer) ≡ ringOf file
-      filled-is =
-          take-at words (drop (head .ringlength) buffer) (head .ringlength) ring-length
-          ∙ ring-words ∙ ap (fileWords file 4) ringlength-is
-
-  -- and its frame memory in a buffer of zeros
-  module _ (memory zeros : List ℕ) (room : 32768 ≤ length memory) (are : zeros ≡ replicate (length memory) 0) where
-    pub frame-in : head .framelength ≤ length zeros
-    frame-in =
-        omega (arith, good-file .frame-most, framelength-is, ap length are, length-replicate {A = ℕ} (length memory) 0)
-
-    pub frame-zeros : take (head .framelength) zeros ≡ replicate (framelengthOf file) 0
-    frame-zeros =
-        ap (take (head .framelength)) are
-        ∙ take-zeros (head .framelength) (length memory) (omega (arith, good-file .frame-most, framelength-is))
-        ∙ ap (λ (k : ℕ). replicate k 0) framelength-is
-
--- ---- the outcome
-
--- a replay of the file's ring on zeros
-module _ (file ring frame : List ℕ) (write budget : ℕ) (ring-is : ring ≡ ringOf file)
-    (frame-is : frame ≡ replicate (framelengthOf file) 0) (write-is : write ≡ writeOf file) (budget-is : budget ≡ budgetOf file) where
-  pub replayed-is : {answer : Answer} → answer ≡ replay ring frame write budget → answer ≡ replayed file
-  unfolding replayed
-  replayed-is e = e ∙ rw (ring-is, frame-is, write-is, budget-is)
-
-  pub replayed-frame : {after : List ℕ} → after ≡ replayFrame ring frame write budget → after ≡ replayedFrame file
-  unfolding replayedFrame
-  replayed-frame e = e ∙ rw (ring-is, frame-is, write-is, budget-is)
-
-module _ (file frame rest : List ℕ) (answer : Answer) (size : ℕ) (fine : badRecording file ≡ false)
-    (size-is : size ≡ frameSize (ringlengthOf file) (framelengthOf file)) (answer-is : answer ≡ replayed file)
-    (frame-is : frame ≡ replayedFrame file) (length-is : length frame ≡ framelengthOf file) where
-  outcome-is : record { bad = false; frame = size; answer = answer } ≡ outcomeOf file
-  unfolding outcomeOf
-  outcome-is = rw (fine, size-is, answer-is)
-
-  size-most : size ≤ length (frame ++ rest)
-  size-most = go (numberOf (setup (ringlengthOf file) (framelengthOf file) .reply) =? 0) size-is
-    where
-      go : (b : Bool) → size ≡ (if b then framelengthOf file else 0) → size ≤ length (frame ++ rest)
-      go true e = omega (arith, length-append frame rest)
-      go false e = omega arith
-
-  bytes-are : take size (frame ++ rest) ≡ frameBytes file
-  unfolding frameBytes
-  bytes-are = go (numberOf (setup (ringlengthOf file) (framelengthOf file) .reply) =? 0) refl size-is
-    where
-      go : (b : Bool) → numberOf (setup (ringlengthOf file) (framelengthOf file) .reply) =? 0 ≡ b
-          → size ≡ (if b then framelengthOf file else 0) → take size (frame ++ rest) ≡ frameBytes file
-      go true p e = rw (fine, p, e) (take-at frame rest (framelengthOf file) length-is ∙ frame-is)
-      go false p e = rw (fine, p, e)
-
-  pub file-outcome :
-      (record { bad = false; frame = size; answer = answer } ≡ outcomeOf file)
-      × (size ≤ length (frame ++ rest))
-      × (take size (frame ++ rest) ≡ frameBytes file)
-  file-outcome = (outcome-is, size-most, bytes-are)
-
--- ---- a bad one
-
-pub bad-file : (file : List ℕ) (head : Head) → head ≡ headOf file → head .bad ≡ true → badRecording file ≡ true
-bad-file file head is taken = go (badRecording file) refl
+-- the first part of a buffer that holds frame memory after it
+pub frame-held : (file memory : List ℕ) → badRecording file ≡ false → Counts (headOf file .framelength) memory
+    → take (headOf file .framelength) memory ≡ replayedFrame file → Holds (frameBytes file) memory (frameSize file)
+unfolding frameBytes
+frame-held file memory fine in-memory is = go (isRefused (made file)) refl
   where
-    go : (b : Bool) → badRecording file ≡ b → badRecording file ≡ true
-    go true e = e
-    go false e = absurd (not-both true refl (sym taken ∙ ap (λ (h : Head). h .bad) (is ∙ good file e .head-is)))
-
-pub bad-outcome : (file : List ℕ) (answer : Answer) → badRecording file ≡ true → answer ≡ refused (freshState 0 0) 0
-    → {length : ℕ} → (record { bad = true; frame = 0; answer = answer } ≡ outcomeOf file) × (0 ≤ length) × ([] ≡ frameBytes file)
-unfolding outcomeOf frameBytes
-bad-outcome file answer e is = (rw (e, is), omega arith, rw e)
+    go : (b : Bool) → isRefused (made file) ≡ b → Holds (frameBytes file) memory (frameSize file)
+    go true e = rw (fine, e) (holds (omega arith) refl)
+    go false e = rw (fine, e) (holds (in-memory .0) is)

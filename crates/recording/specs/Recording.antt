@@ -6,16 +6,16 @@ use mathlib.Core.Bool.{Bool, true, false, not, _||_}
 use mathlib.Core.List.{List, [], _∷_, _++_}
 use native.Mathlib.Omega.{arith}
 use native.Mathlib.Nat.{add-zero}
-use borrow.Author.Tests.{eqb-true, eq-eqb, ne-eqb, not-false}
+use borrow.Author.Tests.{eqb-true, not-false}
 use lib.ListN.{length, take, replicate, length-take}
-use Rattle.model.specs.Choice.{_=?_, if_then_else_, or-left, or-right, neither}
+use Rattle.io.specs.Counts.{Counts}
+use Rattle.model.specs.Choice.{_=?_, if_then_else_, neither}
 use Rattle.model.specs.Pixel.{readPixel}
-use Rattle.model.specs.Calls.{numberOf, setup, freshState, refused}
+use Rattle.model.specs.Calls.{setup}
 use Rattle.model.specs.declared.Answer.{Answer}
 use Rattle.text.specs.Lines.{replayLines, badLine}
-use Rattle.recording.specs.Replay.{badLengths, good-lengths, replay, replayFrame}
+use Rattle.recording.specs.Replay.{ringLimit, frameLimit, badLengths, good-lengths, isRefused, replay, replayFrame}
 use Rattle.recording.specs.declared.Head.{Head}
-use Rattle.recording.specs.declared.Outcome.{Outcome}
 
 -- ---- the file
 
@@ -29,135 +29,86 @@ fileWords file from zero = []
 fileWords file from (suc n) = fileWord file from ∷ fileWords file (from + 1) n
 
 -- "ring length, frame length, write position, budget, then every ring word"
-abbrev pub ringlengthOf : List ℕ → ℕ
-ringlengthOf file = fileWord file 0
-
-abbrev pub framelengthOf : List ℕ → ℕ
-framelengthOf file = fileWord file 1
-
-abbrev pub writeOf : List ℕ → ℕ
-writeOf file = fileWord file 2
-
-abbrev pub budgetOf : List ℕ → ℕ
-budgetOf file = fileWord file 3
+abbrev pub headOf : List ℕ → Head
+headOf file = record {
+  ringlength = fileWord file 0;
+  framelength = fileWord file 1;
+  write = fileWord file 2;
+  budget = fileWord file 3;
+}
 
 abbrev pub ringOf : List ℕ → List ℕ
-ringOf file = fileWords file 4 (ringlengthOf file)
+ringOf file = fileWords file 4 (headOf file .ringlength)
 
 -- "a ring length above 4,096, a frame length above 32,768 or a file that isn't exactly 4 + ring length words"
 unfoldable pub badRecording : List ℕ → Bool
-badRecording file = badLengths (ringlengthOf file) (framelengthOf file) || not (length file =? 4 * (4 + ringlengthOf file))
+badRecording file =
+    badLengths (headOf file .ringlength) (headOf file .framelength) || not (length file =? 4 * (4 + headOf file .ringlength))
 
 -- ---- what comes out
 
 -- "It does setup, one publish and one run on a zeroed frame"
+abbrev pub zeroed : List ℕ → List ℕ
+zeroed file = replicate (headOf file .framelength) 0
+
 unfoldable pub replayed : List ℕ → Answer
-replayed file = replay (ringOf file) (replicate (framelengthOf file) 0) (writeOf file) (budgetOf file)
+replayed file = replay (ringOf file) (zeroed file) (headOf file .write) (headOf file .budget)
 
 unfoldable pub replayedFrame : List ℕ → List ℕ
-replayedFrame file = replayFrame (ringOf file) (replicate (framelengthOf file) 0) (writeOf file) (budgetOf file)
+replayedFrame file = replayFrame (ringOf file) (zeroed file) (headOf file .write) (headOf file .budget)
 
 -- what `replay` writes: "the one line `recording=bad`", or the lines of the last call
 unfoldable pub replayText : List ℕ → List ℕ
 replayText file = if badRecording file then badLine else replayLines (replayed file)
 
 -- how much frame memory there is: none where setup is refused
-abbrev pub frameSize : ℕ → ℕ → ℕ
-frameSize ringlength framelength = if numberOf (setup ringlength framelength .reply) =? 0 then framelength else 0
+abbrev pub made : List ℕ → Answer
+made file = setup (headOf file .ringlength) (headOf file .framelength)
+
+abbrev pub frameSize : List ℕ → ℕ
+frameSize file = if isRefused (made file) then 0 else headOf file .framelength
 
 -- what `frame` writes: frame memory after the same calls; nothing of a bad recording or where setup is refused
 unfoldable pub frameBytes : List ℕ → List ℕ
-frameBytes file =
-    if badRecording file then []
-    else if numberOf (setup (ringlengthOf file) (framelengthOf file) .reply) =? 0 then replayedFrame file
-    else []
+frameBytes file = if badRecording file || isRefused (made file) then [] else replayedFrame file
 
--- ---- the same as the code has it
-
--- a recording's first words: zeros where it is bad
-unfoldable pub headOf : List ℕ → Head
-headOf file =
-    if badRecording file then record { bad = true; ringlength = 0; framelength = 0; write = 0; budget = 0 }
-    else record {
-      bad = false;
-      ringlength = ringlengthOf file;
-      framelength = framelengthOf file;
-      write = writeOf file;
-      budget = budgetOf file;
-    }
-
--- the outcome of a replay
-unfoldable pub outcomeOf : List ℕ → Outcome
-outcomeOf file =
-    if badRecording file then record { bad = true; frame = 0; answer = refused (freshState 0 0) 0 }
-    else record { bad = false; frame = frameSize (ringlengthOf file) (framelengthOf file); answer = replayed file }
+-- a recording, taken out of a buffer: its first words, its ring at the start of one buffer, a zeroed frame at the start of another
+pub record Loaded (file ring memory : List ℕ) (head : Head) : Type 0 where
+  pub head-is : head ≡ headOf file
+  pub ring-in : Counts (head .ringlength) ring
+  pub ring-is : take (head .ringlength) ring ≡ ringOf file
+  pub frame-in : Counts (head .framelength) memory
+  pub frame-is : take (head .framelength) memory ≡ zeroed file
 
 -- ---- laws
 
-module _ (file : List ℕ) where
-  abbrev long : Bool
-  long = badLengths (ringlengthOf file) (framelengthOf file)
-
-  -- the two ways of being bad
-  pub long-bad : long ≡ true → badRecording file ≡ true
-  unfolding badRecording
-  long-bad e = or-left long _ e
-
-  pub size-bad : (length file ≡ 4 * (4 + ringlengthOf file) → ⊥) → badRecording file ≡ true
-  unfolding badRecording
-  size-bad h = or-right long _ (rw (ne-eqb (length file) (4 * (4 + ringlengthOf file)) h))
-
-  -- a file that is too short for the first words is the second
-  pub short-bad : length file < 16 → badRecording file ≡ true
-  short-bad h = size-bad (λ e. omega arith)
-
-  pub not-bad : long ≡ false → length file ≡ 4 * (4 + ringlengthOf file) → badRecording file ≡ false
-  unfolding badRecording
-  not-bad e h = rw (e, eq-eqb (length file) (4 * (4 + ringlengthOf file)) h)
-
-  pub bad-head : badRecording file ≡ true → headOf file ≡ record { bad = true; ringlength = 0; framelength = 0; write = 0; budget = 0 }
-  unfolding headOf
-  bad-head e = rw e
-
--- what holds of one that is not bad
+-- what holds of a recording that is not bad
 pub record Good (file : List ℕ) : Type 0 where
-  pub head-is : headOf file ≡ record {
-    bad = false;
-    ringlength = ringlengthOf file;
-    framelength = framelengthOf file;
-    write = writeOf file;
-    budget = budgetOf file;
-  }
-  pub ring-most : ringlengthOf file ≤ 4096
-  pub frame-most : framelengthOf file ≤ 32768
-  pub length-is : length file ≡ 4 * (4 + ringlengthOf file)
+  pub ring-most : headOf file .ringlength ≤ ringLimit
+  pub frame-most : headOf file .framelength ≤ frameLimit
+  pub length-is : length file ≡ 4 * (4 + headOf file .ringlength)
 
 pub good : (file : List ℕ) → badRecording file ≡ false → Good file
-unfolding badRecording headOf
+unfolding badRecording
 good file e =
-    let n = neither (badLengths (ringlengthOf file) (framelengthOf file)) _ e in
-    let l = good-lengths (ringlengthOf file) (framelengthOf file) (n .0) in
-    record {
-      head-is = rw e;
-      ring-most = l .0;
-      frame-most = l .1;
-      length-is = eqb-true _ _ (not-false _ (n .1));
-    }
+    let n = neither (badLengths (headOf file .ringlength) (headOf file .framelength)) _ e in
+    let l = good-lengths (headOf file .ringlength) (headOf file .framelength) (n .0) in
+    record { ring-most = l .0; frame-most = l .1; length-is = eqb-true _ _ (not-false _ (n .1)) }
 
--- a file longer than the longest recording is bad, and so is as much of it as a buffer of 32,768 bytes holds: what is written of
+-- a file longer than the longest recording is bad, and so is as much of it as the longest frame memory holds: what is written of
 -- the two is the same
-long-file : (file : List ℕ) → 16_400 < length file → badRecording file ≡ true
+long-file : (file : List ℕ) → 4 * (4 + ringLimit) < length file → badRecording file ≡ true
 long-file file h = go (badRecording file) refl
   where
     go : (b : Bool) → badRecording file ≡ b → badRecording file ≡ true
     go true e = e
     go false e = let g = good file e in absurd (omega arith)
 
-pub cut-file : (file : List ℕ) → 32_768 < length file
-    → (replayText (take 32_768 file) ≡ replayText file) × (frameBytes (take 32_768 file) ≡ frameBytes file)
+pub cut-file : (file : List ℕ) → frameLimit < length file
+    → (replayText (take frameLimit file) ≡ replayText file) × (frameBytes (take frameLimit file) ≡ frameBytes file)
 unfolding replayText frameBytes
 cut-file file h =
-    let part = long-file (take 32_768 file) (omega (arith, length-take 32_768 file)) in
+    let part = long-file (take frameLimit file) (omega (arith, length-take frameLimit file)) in
     let whole = long-file file (omega arith) in
     (rw (part, whole), rw (part, whole))
 
@@ -171,13 +122,3 @@ fileWords-more file (suc n) from =
 pub length-words : (file : List ℕ) (n from : ℕ) → length (fileWords file from n) ≡ n
 length-words file zero from = refl
 length-words file (suc n) from = ap suc (length-words file n (from + 1))
-
--- what is written is that of the outcome
-pub text-is : (file : List ℕ) → replayText file ≡ (if outcomeOf file .bad then badLine else replayLines (outcomeOf file .answer))
-unfolding replayText outcomeOf
-text-is file = go (badRecording file) refl
-  where
-    go : (b : Bool) → badRecording file ≡ b
-        → replayText file ≡ (if outcomeOf file .bad then badLine else replayLines (outcomeOf file .answer))
-    go true e = rw e
-    go false e = rw e

@@ -2,7 +2,8 @@
 ghost use mathlib.Core.Path.{_≡_};
 ghost use Prim.Native.Nat.{_<_, _≤_};
 ghost use lib.ListN.{length};
-ghost use Rattle.model.specs.Ring.{distance, waiting, room, publishRefusal, wordAt};
+ghost use Rattle.model.specs.Refusals.{first};
+ghost use Rattle.model.specs.Ring.{distance, waiting, room, positionRules, wordAt};
 
 // How many words lead from one position on to another.
 fn gap(size: usize, from: usize, to: usize) -> usize
@@ -31,20 +32,20 @@ pub fn room_left(size: usize, read: usize, write: usize) -> usize
     size - 1 - waiting_words(size, read, write)
 }
 
-// Whether position p may be published: 0, or the number that refuses it, for any p.
+// The number that refuses position p, or 0 where it may be published, for any p.
 pub fn publish_refusal(size: usize, read: usize, write: usize, p: usize) -> u32
     requires { ⌜ (read < size) × (write < size) ⌝ }
-    ensures { λ r. ⌜ r ≡ publishRefusal size read write p ⌝ }
+    ensures { λ r. ⌜ r ≡ first (positionRules size read write p) ⌝ }
 {
-    if p < size {
-        let there = waiting_words(size, read, write);
-        let ahead = gap(size, read, p);
-        if there <= ahead {
-            return 0;
-        }
+    if size <= p {
+        return 5;
+    }
+    let there = waiting_words(size, read, write);
+    let ahead = gap(size, read, p);
+    if ahead < there {
         return 6;
     }
-    5
+    0
 }
 
 // Word number i from position at, across the ring's end.

@@ -6,6 +6,10 @@ use native.Mathlib.Omega.{arith}
 use lib.ListN.{length, take, length-take}
 use Rattle.io.specs.Counts.{Counts}
 
+-- the length of `io`'s buffers, which holds every line
+abbrev pub bufferLength : ℕ
+bufferLength = 4_096
+
 -- `after` is the buffer `before` with a text put into it at a place; the text ends at `end`, and is at most `most` bytes long
 pub record Put (before : List ℕ) (at : ℕ) (text : List ℕ) (most : ℕ) (after : List ℕ) (end : ℕ) : Type 0 where
   pub end-most : end ≤ at + most
@@ -25,16 +29,13 @@ put-then {a} {b} {c} {s} {t} {at} g h = record {
   text-is = h .text-is ∙ ap (λ (x : List ℕ). x ++ t) (g .text-is) ∙ append-assoc (take at a) s t;
 }
 
--- two texts, put at once, after another
-pub put-both : (t u : List ℕ) {a b c s : List ℕ} {at p e m n : ℕ} → Put a at s m b p → Put b p (t ++ u) n c e → Put a at (s ++ t ++ u) (m + n) c e
-put-both t u {s = s} g h = rw (append-assoc s t u) (put-then g h)
-
 pub put-most : {a b s : List ℕ} {at e m n : ℕ} → m ≤ n → Put a at s m b e → Put a at s n b e
 put-most l h = record { end-most = omega arith; text-is = h .text-is }
 
--- from the buffer's start, and with room for it
-pub put-holds : {a b s : List ℕ} {e m : ℕ} → m ≤ length b → Put a 0 s m b e → Holds s b e
-put-holds {a} {b} {s} {e} l h = record {
-  counts = (omega arith, omega (arith, length-take e b));
-  text-is = h .text-is;
-}
+-- the same text
+pub holds-is : {b s t : List ℕ} {e : ℕ} → s ≡ t → Holds s b e → Holds t b e
+holds-is e h = record { counts = h .counts; text-is = h .text-is ∙ e }
+
+-- a text with room for it
+pub holds : {b s : List ℕ} {e : ℕ} → e ≤ length b → take e b ≡ s → Holds s b e
+holds {b} {s} {e} l is = record { counts = (l, omega (arith, length-take e b)); text-is = is }

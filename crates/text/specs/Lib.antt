@@ -1,4 +1,5 @@
 pub mod Ascii
 pub mod Numerals
+pub mod Template
 pub mod Lines
 pub mod Buffers

@@ -1,11 +1,11 @@
 -- The lines that the programs write of the engine's answers.
 use Prim.Native.Nat.{ℕ}
 use Prim.Native.String.{String}
-use mathlib.Core.List.{List, _++_}
-use Rattle.model.specs.Choice.{_=?_, if_then_else_}
-use Rattle.model.specs.Calls.{unitsOf, roomOf}
+use mathlib.Core.List.{List, [], _∷_, _++_}
+use lib.ListN.{getD}
+use Rattle.model.specs.Calls.{numberOf, unitsOf, roomOf}
 use Rattle.model.specs.declared.State.{State}
-use Rattle.model.specs.declared.Kind.the-variants.{Blt, Vector}
+use Rattle.model.specs.declared.Primitive.the-variants.{Blt, Vector}
 use Rattle.model.specs.declared.Place.{Place}
 use Rattle.model.specs.declared.Place.the-variants.{Idle, Drawing}
 use Rattle.model.specs.declared.RunWord.{RunWord}
@@ -15,16 +15,19 @@ use Rattle.model.specs.declared.Reply.the-variants.{Refused, Accepted, Ran}
 use Rattle.model.specs.declared.Answer.{Answer}
 use Rattle.text.specs.Ascii.{ascii}
 use Rattle.text.specs.Numerals.{decimal, hexadecimal}
+use Rattle.text.specs.declared.Parts.{Parts}
+use Rattle.text.specs.declared.Drawn.{Drawn}
 
 -- ---- the replay's lines
 
--- a key, its value and what ends it
-abbrev pub field : String → List ℕ → List ℕ → List ℕ
-field key value end = ascii key ++ ascii "=" ++ value ++ end
+-- keys with their values, each with what ends it, and what stands after them
+abbrev pub fields : String → List (String × List ℕ) → List ℕ → List ℕ
+fields end [] after = after
+fields end (f ∷ more) after = ascii (f .0) ++ (ascii "=" ++ (f .1 ++ (ascii end ++ fields end more after)))
 
 -- "key=value lines"
-abbrev pub line : String → List ℕ → List ℕ
-line key value = field key value (ascii "\n")
+abbrev pub lines : List (String × List ℕ) → List ℕ
+lines fs = fields "\n" fs []
 
 -- "one word: stopped, .. waiting, .. spent"
 abbrev pub runName : RunWord → List ℕ
@@ -48,32 +51,25 @@ lastNumber (Ran word units room) stop = stop
 
 -- "It writes key=value lines in this order": of the answer of the last call
 unfoldable pub replayLines : Answer → List ℕ
-replayLines a =
-    line "retired" (decimal (a .state .core .completion))
-    ++ line "units" (decimal (unitsOf (a .reply)))
-    ++ line "read" (decimal (a .state .core .read))
-    ++ line "write" (decimal (a .state .write))
-    ++ line "state" (stateName (a .reply))
-    ++ line "refusal" (decimal (lastNumber (a .reply) (a .state .core .stop)))
+replayLines a = lines (
+    ("retired", decimal (a .state .core .completion))
+    ∷ ("units", decimal (unitsOf (a .reply)))
+    ∷ ("read", decimal (a .state .core .read))
+    ∷ ("write", decimal (a .state .write))
+    ∷ ("state", stateName (a .reply))
+    ∷ ("refusal", decimal (lastNumber (a .reply) (a .state .core .stop)))
+    ∷ []
+    )
 
 -- "gives the one line `recording=bad`"
 abbrev pub badLine : List ℕ
-badLine = line "recording" (ascii "bad")
+badLine = lines (("recording", ascii "bad") ∷ [])
 
 -- ---- the trace's lines
 
--- a call's line has fields, of which all but the last end with a space
-abbrev pub item : String → List ℕ → List ℕ
-item key value = field key value (ascii " ")
-
--- the calls by their numbers in a trace; setup has none
+-- the calls by their numbers in a trace; 0 stands for setup
 abbrev pub callName : ℕ → List ℕ
-callName op =
-    if op =? 1 then ascii "publish"
-    else if op =? 2 then ascii "run"
-    else if op =? 3 then ascii "room"
-    else if op =? 4 then ascii "restart"
-    else ascii "setup"
+callName op = getD (ascii "setup" ∷ ascii "publish" ∷ ascii "run" ∷ ascii "room" ∷ ascii "restart" ∷ []) op []
 
 -- 0 where a call is accepted, or the run's word, or the refusal's number
 abbrev pub answerName : Reply → List ℕ
@@ -87,27 +83,47 @@ placeName Idle = ascii "none"
 placeName (Drawing Blt k) = ascii "blt-" ++ decimal k
 placeName (Drawing Vector k) = ascii "vector-" ++ decimal k
 
--- a call and what it answers
-unfoldable pub askedItems : ℕ → Reply → List ℕ
-askedItems op reply =
-    item "call" (callName op)
-    ++ item "answer" (answerName reply)
-    ++ item "units" (decimal (unitsOf reply))
-    ++ item "room" (decimal (roomOf reply))
-
--- the state that it hands back
-unfoldable pub stateItems : State → List ℕ
-stateItems s =
-    item "read" (decimal (s .core .read))
-    ++ item "write" (decimal (s .write))
-    ++ item "retired" (decimal (s .core .completion))
-    ++ item "stop" (decimal (s .core .stop))
-    ++ line "drawing" (placeName (s .core .place))
-
--- the line of a call
+-- a call, what it answers, and the state that it hands back: all but the last field end with a space
 unfoldable pub callLine : ℕ → Answer → List ℕ
-callLine op a = askedItems op (a .reply) ++ stateItems (a .state)
+callLine op a =
+    fields " "
+    (("call", callName op)
+    ∷ ("answer", answerName (a .reply))
+    ∷ ("units", decimal (unitsOf (a .reply)))
+    ∷ ("room", decimal (roomOf (a .reply)))
+    ∷ ("read", decimal (a .state .core .read))
+    ∷ ("write", decimal (a .state .write))
+    ∷ ("retired", decimal (a .state .core .completion))
+    ∷ ("stop", decimal (a .state .core .stop))
+    ∷ [])
+    (lines (("drawing", placeName (a .state .core .place)) ∷ []))
 
 -- the last line: a checksum of frame memory
 abbrev pub crcLine : ℕ → List ℕ
-crcLine crc = line "frame_crc32" (hexadecimal crc)
+crcLine crc = lines (("frame_crc32", hexadecimal crc) ∷ [])
+
+-- ---- the same by templates, as the code has it
+
+abbrev pub runKind : RunWord → ℕ
+runKind Stopped = 2
+runKind Waiting = 3
+runKind Spent = 4
+
+abbrev pub kindOf : Reply → ℕ
+kindOf (Refused number) = 1
+kindOf (Accepted room) = 0
+kindOf (Ran word units room) = runKind word
+
+abbrev pub partsOf : Answer → Parts
+partsOf a = record {
+  kind = kindOf (a .reply);
+  number = numberOf (a .reply);
+  units = unitsOf (a .reply);
+  room = roomOf (a .reply);
+  last = lastNumber (a .reply) (a .state .core .stop);
+}
+
+abbrev pub drawnOf : Place → Drawn
+drawnOf Idle = record { command = 0; pixels = 0 }
+drawnOf (Drawing Blt k) = record { command = 1; pixels = k }
+drawnOf (Drawing Vector k) = record { command = 2; pixels = k }

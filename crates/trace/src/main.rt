@@ -3,9 +3,8 @@
 ghost use mathlib.Core.Bool.{true};
 ghost use mathlib.Core.Path.{_≡_};
 ghost use lib.ListN.{length};
-ghost use Rattle.recording.specs.Trace.{held, beginOf, Reached};
+ghost use Rattle.tracing.specs.Trace.{held, beginOf, Reached};
 use model::State;
-use recording::Input;
 
 fn empty_record() -> [u8; 12]
     ensures { λ r. ⌜ 12 ≡ length r ⌝ }
@@ -24,20 +23,21 @@ fn do_record(fd: i32, s: State, ring: &mut [u32], frame: &mut [u8]) -> Turn
     ensures { λ r. ⌜ Reached (held s (now (ring .entry)) (now (frame .entry))) (held (r .state) (now (ring .exit)) (now (frame .exit))) ⌝ }
 {
     let mut part = empty_record();
-    let got = recording::read(fd, &mut part);
-    let Input::Bytes(n) = got else {
+    let got = files::read(fd, &mut part);
+    if got.failed {
         return Turn {
             more: false,
             state: s,
         };
-    };
-    let mut line = text::line_buffer();
-    let step = recording::trace_step(&part[..n], s, ring, frame, &mut line);
+    }
+    let n = got.bytes;
+    let mut line = io::buffer();
+    let step = tracing::next_step(&part[..n], s, ring, frame, &mut line);
     let k = step.length;
-    let written = recording::write(&line[..k]);
+    let written = files::write(&line[..k]);
     let state = step.state;
     Turn {
-        more: step.more && written,
+        more: step.more & written,
         state,
     }
 }
@@ -65,9 +65,8 @@ fn records(fd: i32, head: &[u8], s: State, ring: &mut [u32], frame: &mut [u8]) -
 fn go_on(fd: i32, head: &[u8], s: State)
     requires { ⌜ (beginOf (now head) .more ≡ true) × (s ≡ beginOf (now head) .held .state) ⌝ }
 {
-    let core = s.core;
-    let ringlength = core.ringlength;
-    let framelength = core.framelength;
+    let ringlength = recording::word_at(head, 0) as usize;
+    let framelength = recording::word_at(head, 1) as usize;
     let mut ring = recording::ring_buffer();
     let mut frame = recording::frame_buffer();
     records(
@@ -81,10 +80,10 @@ fn go_on(fd: i32, head: &[u8], s: State)
 
 // Sets the engine up, writes the line of it, and goes on.
 fn trace(fd: i32, head: &[u8]) {
-    let mut line = text::line_buffer();
-    let begin = recording::trace_begin(head, &mut line);
+    let mut line = io::buffer();
+    let begin = tracing::first_step(head, &mut line);
     let k = begin.length;
-    let written = recording::write(&line[..k]);
+    let written = files::write(&line[..k]);
     if !written {
         return;
     }
@@ -94,14 +93,15 @@ fn trace(fd: i32, head: &[u8]) {
 }
 
 fn main() {
-    let fd = recording::open();
+    let fd = files::open();
     if fd < 0 {
         return;
     }
     let mut head = [0u8; 8];
-    let got = recording::read(fd, &mut head);
-    let Input::Bytes(n) = got else {
+    let got = files::read(fd, &mut head);
+    if got.failed {
         return;
-    };
+    }
+    let n = got.bytes;
     trace(fd, &head[..n]);
 }

@@ -1,5 +1,15 @@
 // Vectors: the registers that describe one, the steps from pixel to pixel, the bytes that it reaches, and its drawing.
+use model::DST_OFFSET;
+use model::Extent;
+use model::PAT_COLOR_0;
 use model::Position;
+use model::RASTER_MODE;
+use model::REGISTERS;
+use model::SRC_COLOR_FG;
+use model::STRIDE;
+use model::VEC_ERR;
+use model::VEC_LEN;
+use model::VECTOR_MODE;
 use model::Vector;
 ghost use mathlib.Core.Path.{_≡_};
 ghost use mathlib.Core.Bool.{_||_};
@@ -7,42 +17,48 @@ ghost use Prim.Native.Nat.{_+_, _^_, _≤_, _<_};
 ghost use lib.ListN.{length};
 ghost use lib.IntN.{pos};
 ghost use lib.Signed.{ltZ};
-ghost use Rattle.model.specs.VectorPixel.{signed16, vectorOf, majorStep, minorStep, moved, step, position, vectorOutside};
+ghost use Rattle.model.specs.Limits.{frameMost, sideMost};
+ghost use Rattle.model.specs.VectorPixel.{signed16, vectorOf, majorStep, minorStep, moved, step, position, vectorOutside, vectorExtent};
 ghost use Rattle.laws.specs.Order.{vectorPixels};
 ghost use Rattle.laws.specs.Ranges.{RangedVector, FitVector};
 ghost use Rattle.laws.specs.Walks.{Near};
+ghost use Rattle.laws.specs.ClosedForm.{Terms, unbiased, errorAt, diagonals};
 
-// ---- the registers that a vector reads
+// ---- signed numbers
 
-const RASTER_MODE: usize = 0;
+// What is added to a signed 16-bit number so that it is not below 0.
+const BIAS: usize = 32768;
 
-const DST_OFFSET: usize = 1;
+// A signed 16-bit number, biased.
+fn biased(x: i16) -> usize
+    ensures { λ r. ⌜ (x ≡ unbiased r) × (r < 65536) ⌝ }
+{
+    (x as i32 + 32768) as usize
+}
 
-const VEC_ERR: usize = 2;
-
-const STRIDE: usize = 3;
-
-const VEC_LEN: usize = 4;
-
-const SRC_COLOR_FG: usize = 5;
-
-const PAT_COLOR_0: usize = 7;
-
-const VECTOR_MODE: usize = 16;
+// The signed number that a biased one stands for.
+fn from_biased(x: usize) -> i16
+    requires { ⌜ x < 65536 ⌝ }
+    ensures { λ r. ⌜ r ≡ unbiased x ⌝ }
+{
+    (x as i32 - 32768) as i16
+}
 
 // A 16-bit field as a signed number.
-fn signed(x: u32) -> i16
+fn signed(x: usize) -> i16
     requires { ⌜ x < 65536 ⌝ }
     ensures { λ r. ⌜ r ≡ signed16 x ⌝ }
 {
-    if x < 32768 {
-        return x as i16;
+    if x < BIAS {
+        return from_biased(x + BIAS);
     }
-    (x as i32 - 65536) as i16
+    from_biased(x - BIAS)
 }
 
+// ---- what the registers describe
+
 // The vector that the registers describe.
-pub fn vector_of(registers: [u32; 17]) -> Vector
+pub fn vector_of(registers: [u32; REGISTERS]) -> Vector
     ensures { λ r. ⌜ r ≡ vectorOf registers ⌝ }
 {
     let raster = registers[RASTER_MODE];
@@ -51,20 +67,20 @@ pub fn vector_of(registers: [u32; 17]) -> Vector
     let mode = registers[VECTOR_MODE];
     let depth = fields::depth_of(fields::bits(raster, 31, 28));
     let code = fields::bits(raster, 7, 0);
-    let offset = fields::bits(registers[DST_OFFSET], 23, 0);
-    let stride = fields::bits(registers[STRIDE], 15, 0);
-    let length = fields::bits(size, 27, 16);
-    let axial = signed(fields::bits(terms, 31, 16));
-    let diagonal = signed(fields::bits(terms, 15, 0));
-    let initial = signed(fields::bits(size, 15, 0));
+    let offset = fields::number(registers[DST_OFFSET], 23, 0);
+    let stride = fields::number(registers[STRIDE], 15, 0);
+    let length = fields::number(size, 27, 16);
+    let axial = signed(fields::number(terms, 31, 16));
+    let diagonal = signed(fields::number(terms, 15, 0));
+    let initial = signed(fields::number(size, 15, 0));
     let ymajor = fields::is_set(mode, 0);
     let majorpositive = fields::is_set(mode, 1);
     let minorpositive = fields::is_set(mode, 2);
     Vector {
         depth,
-        length: length as usize,
-        offset: offset as usize,
-        stride: stride as usize,
+        length,
+        offset,
+        stride,
         axial,
         diagonal,
         initial,
@@ -138,7 +154,7 @@ fn shifted(positive: bool, n: usize, s: Position) -> Position
     }
 }
 
-// The next pixel's place. The error stays a signed 16-bit number: the axial term, not negative, is added to a negative
+// The next pixel's position. The error stays a signed 16-bit number: the axial term, not negative, is added to a negative
 // error, and the diagonal term, not positive, to one that is not negative.
 fn next(v: Vector, s: Position) -> Position
     requires { ⌜ (RangedVector v) × (Near s) ⌝ }
@@ -165,73 +181,125 @@ fn next(v: Vector, s: Position) -> Position
     }
 }
 
-// The first pixel's place: the destination offset, with the initial error.
-fn start(v: Vector) -> Position
-    ensures { λ r. ⌜ r ≡ position v 0 ⌝ }
+// ---- the steps at once
+
+// How many of the first k steps are diagonal, by the biased initial error and terms. Each lowers the error after k axial steps
+// by the axial term less the diagonal one, as long as it stays at the diagonal term or above.
+fn diagonal_steps(initial: usize, axial: usize, diagonal: usize, k: usize) -> usize
+    requires { ⌜ (Terms initial axial diagonal) × (k ≤ sideMost) ⌝ }
+    ensures { λ r. ⌜ r ≡ diagonals initial axial diagonal k ⌝ }
 {
-    let initial = v.initial;
-    Position {
-        plus: 0,
-        minus: 0,
-        error: initial,
+    let total = initial + k * (axial - BIAS);
+    if total < diagonal {
+        return 0;
     }
+    let less = axial - diagonal;
+    if total - diagonal < k * less {
+        return (total - diagonal) / less;
+    }
+    k
 }
 
-// The place of pixel k, where a vector that was left in its middle is taken up again.
-fn place(v: Vector, k: usize) -> Position
+// The biased error after k steps, n of them diagonal.
+fn error_after(initial: usize, axial: usize, diagonal: usize, k: usize, n: usize) -> usize
+    requires { ⌜ (Terms initial axial diagonal) × (k ≤ sideMost) × (n ≡ diagonals initial axial diagonal k) ⌝ }
+    ensures { λ r. ⌜ (r ≡ errorAt initial axial diagonal k) × (r < 65536) ⌝ }
+{
+    initial + k * (axial - BIAS) - n * (axial - diagonal)
+}
+
+// The position of pixel k, at the same cost for each k.
+fn position_of(v: Vector, k: usize) -> Position
     requires { ⌜ (RangedVector v) × (k ≤ v .length) ⌝ }
     ensures { λ r. ⌜ r ≡ position v k ⌝ }
 {
-    let mut s = start(v);
-    let mut i = 0;
-    while i < k {
-        s = next(v, s);
-        i += 1;
-    }
-    s
+    let initial = biased(v.initial);
+    let axial = biased(v.axial);
+    let diagonal = biased(v.diagonal);
+    let n = diagonal_steps(initial, axial, diagonal, k);
+    let error = error_after(initial, axial, diagonal, k, n);
+    let first = Position {
+        plus: 0,
+        minus: 0,
+        error: from_biased(error),
+    };
+    let along = shifted(v.majorpositive, k * major_step(v), first);
+    shifted(v.minorpositive, n * minor_step(v), along)
 }
 
 // ---- frame memory
 
-// Whether some byte of some pixel of the vector lies outside a frame memory of so many bytes. Every pixel is looked at: where
-// the two signs differ, one in the middle can reach furthest.
-pub fn outside(framelength: usize, v: Vector) -> bool
+// Where the pixels of a vector lie in a frame memory of so many bytes. Every pixel is looked at: where the two signs differ, one
+// in the middle can reach furthest.
+pub fn extent(framelength: usize, v: Vector) -> Extent
     requires { ⌜ RangedVector v ⌝ }
-    ensures { λ r. ⌜ r ≡ vectorOutside framelength v ⌝ }
+    ensures { λ r. ⌜ r ≡ vectorExtent framelength v ⌝ }
 {
     let depth = v.depth;
     let length = v.length;
     let offset = v.offset;
-    let mut s = start(v);
+    let mut low = offset;
+    let mut end = offset + depth;
+    let mut s = position_of(v, 0);
     let mut k = 0;
     while k < length {
         let plus = s.plus;
         let minus = s.minus;
         let sum = offset + plus;
         if sum < minus {
-            return true;
+            return Extent::Outside;
         }
-        if framelength < sum - minus + depth {
-            return true;
+        let at = sum - minus;
+        let after = at + depth;
+        if framelength < after {
+            return Extent::Outside;
+        }
+        if at < low {
+            low = at;
+        }
+        if end < after {
+            end = after;
         }
         s = next(v, s);
         k += 1;
     }
-    false
+    Extent::Inside { low, high: end - 1 }
+}
+
+// Whether some byte of some pixel of the vector lies outside. No pixel has more added to its offset, or more taken away, than the
+// last: where these two taken apart stay inside, so does every pixel, and no other is looked at.
+pub fn outside(framelength: usize, v: Vector) -> bool
+    requires { ⌜ RangedVector v ⌝ }
+    ensures { λ r. ⌜ r ≡ vectorOutside framelength v ⌝ }
+{
+    let depth = v.depth;
+    let offset = v.offset;
+    let last = position_of(v, v.length - 1);
+    let top = offset + last.plus;
+    let minus = last.minus;
+    if minus <= offset {
+        if top + depth <= framelength {
+            return false;
+        }
+    }
+    match extent(framelength, v) {
+        Extent::Inside { low: _, high: _ } => false,
+        Extent::Outside => true,
+    }
 }
 
 // ---- drawing
 
 // Draws n pixels of a vector, from pixel k.
 pub fn draw(f: &mut [u8], v: Vector, k: usize, n: usize)
-    requires { ⌜ (FitVector (length (now f)) v) × (k + n ≤ v .length) × (length (now f) ≤ 16777216) ⌝ }
+    requires { ⌜ (FitVector (length (now f)) v) × (k + n ≤ v .length) × (length (now f) ≤ frameMost) ⌝ }
     ensures { λ _. ⌜ now (f .exit) ≡ vectorPixels v k n (now (f .entry)) ⌝ }
 {
     let depth = v.depth;
     let offset = v.offset;
     let source = v.foreground;
     let op = pixel::prepare(v.code, v.color);
-    let mut s = place(v, k);
+    let mut s = position_of(v, k);
     let mut i = 0;
     while i < n {
         let plus = s.plus;

@@ -1,12 +1,13 @@
 use Prim.Native.Nat.{_-_, _≤_, _<_}
 use mathlib.Core.Path.{_≡_, refl, sym, _∙_}
+use mathlib.Core.Bool.{true, false}
 use mathlib.Core.Logic.{⊎-elim}
 use native.Mathlib.Omega.{arith}
 use borrow.Author.Needs.{needs}
 use lib.ListN.{length, drop}
 use denote.Ref.{now}
 use Rattle.model.specs.Command.{wordRegisters, loadWords, loaded}
-use Rattle.command.proofs.Loads.{load-on, load-off, load-end}
+use Rattle.command.proofs.Loads.{load-word, load-end}
 use Rattle.command.proofs.load.Statement.{statement}
 use Rattle.command.proofs.load.Tie as tie
 
@@ -59,18 +60,14 @@ loop-again c =
     let a = c .before .before .before .before .before .before .before .args in
     let l = c .before .before .before .loop in
     let kind = c .before .before .before .before .before .kind-of .result in
-    let on = c .before .is-set .ensures in
-    let h : l .i < length (wordRegisters kind) = omega arith in
+    let on = sym (c .before .is-set .ensures) in
+    let word = load-word (now (a .ring)) (a .read) (a .header) (wordRegisters kind) (l .i) (l .out) in
     ⊎-elim
     (λ w. (
       omega arith,
-      rw (w .3, w .1 .ensures .0, w .2 .ensures)
-          (l .inv .1 ∙ load-on (now (a .ring)) (a .read) (a .header) (wordRegisters kind) (l .i) (l .out) h (sym on ∙ w .0 .taken)),
+      rw (w .3, w .1 .ensures .0, w .2 .ensures) (l .inv .1 ∙ word true (omega arith) (on ∙ w .0 .taken)),
     ))
-    (λ w. (
-      omega arith,
-      rw (w .1) (l .inv .1 ∙ load-off (now (a .ring)) (a .read) (a .header) (wordRegisters kind) (l .i) (l .out) h (sym on ∙ w .0 .left)),
-    ))
+    (λ w. (omega arith, rw (w .1) (l .inv .1 ∙ word false (omega arith) (on ∙ w .0 .left))))
     (c .if1 .came)
 
 returns : tie.Need-returns Inv-loop μ-loop

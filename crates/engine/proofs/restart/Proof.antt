@@ -1,44 +1,24 @@
-use mathlib.Core.Path.{sym, _∙_}
-use borrow.Author.Tests.{eq-eqb, ne-eqb}
-use Rattle.model.specs.Calls.{restart}
+use mathlib.Core.Path.{refl, sym, _∙_}
+use native.Mathlib.Omega.{arith}
+use Rattle.model.specs.Refusals.{positive, none-first}
+use Rattle.model.specs.Calls.{restartRules, restart}
 use Rattle.laws.specs.Fit.{fit-parts}
 use borrow.Author.Needs.{needs}
 use Rattle.engine.proofs.restart.Statement.{statement}
 use Rattle.engine.proofs.restart.Tie as tie
 
-is-unfit-requires : tie.Need-is-unfit-requires
-is-unfit-requires c κs = search needs
+restart-number-requires : tie.Need-restart-number-requires
+restart-number-requires c κs = search needs
 
-refuse-requires : tie.Need-refuse-requires
-refuse-requires c κs = search needs
+answer-requires : tie.Need-answer-requires
+unfolding positive
+answer-requires c κs = λ e.
+    let f = fit-parts (c .before .before .args .s) (none-first (restartRules (c .before .before .args .s)) refl (sym (c .before .restart-number .ensures) ∙ e) .0) in
+    record { read-in = omega (arith, f .read-in, f .write-in); write-in = f .write-in }
 
 returns : tie.Need-returns
 unfolding restart
-returns c = rw (sym (c .before .before .is-unfit .ensures) ∙ c .before .if1 .taken) (c .refuse .ensures)
-
-refuse-requires-2 : tie.Need-refuse-requires-2
-refuse-requires-2 c κs = search needs
-
-returns-2 : tie.Need-returns-2
-unfolding restart
-returns-2 c = rw (sym (c .before .before .before .before .before .is-unfit .ensures) ∙ c .before .before .before .before .if1 .left, eq-eqb _ _ (c .before .if2 .taken)) (c .refuse2 .ensures)
-
-accept-requires : tie.Need-accept-requires
-accept-requires c κs =
-    let f = fit-parts _ (sym (c .before .before .before .before .is-unfit .ensures) ∙ c .before .before .before .if1 .left) in (f .write-in, f .write-in)
-
-returns-3 : tie.Need-returns-3
-unfolding restart
-returns-3 c = rw (sym (c .before .before .before .before .before .is-unfit .ensures) ∙ c .before .before .before .before .if1 .left, ne-eqb _ _ (c .before .if2 .left)) (c .accept .ensures)
+returns c = c .answer .ensures ∙ rw (c .before .before .restart-number .ensures)
 
 pub restart-spec : {M : Type 1} → statement M
-restart-spec =
-    tie.close
-    (tie.spec
-    is-unfit-requires
-    refuse-requires
-    returns
-    refuse-requires-2
-    returns-2
-    accept-requires
-    returns-3)
+restart-spec = tie.close (tie.spec restart-number-requires answer-requires returns)

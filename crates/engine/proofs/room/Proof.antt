@@ -1,28 +1,23 @@
-use mathlib.Core.Path.{sym, _∙_}
-use Rattle.model.specs.Calls.{askRoom}
+use mathlib.Core.Path.{refl, sym, _∙_}
+use Rattle.model.specs.Refusals.{positive, none-first}
+use Rattle.model.specs.Calls.{roomRules, askRoom}
 use Rattle.laws.specs.Fit.{fit-parts}
 use borrow.Author.Needs.{needs}
 use Rattle.engine.proofs.room.Statement.{statement}
 use Rattle.engine.proofs.room.Tie as tie
 
-is-unfit-requires : tie.Need-is-unfit-requires
-is-unfit-requires c κs = search needs
+room-number-requires : tie.Need-room-number-requires
+room-number-requires c κs = search needs
 
-refuse-requires : tie.Need-refuse-requires
-refuse-requires c κs = search needs
+answer-requires : tie.Need-answer-requires
+unfolding positive
+answer-requires c κs = λ e.
+    let f = fit-parts (c .before .args .s) (none-first (roomRules (c .before .args .s)) refl (sym (c .room-number .ensures) ∙ e) .0) in
+    record { read-in = f .read-in; write-in = f .write-in }
 
 returns : tie.Need-returns
 unfolding askRoom
-returns c = rw (sym (c .before .before .is-unfit .ensures) ∙ c .before .if1 .taken) (c .refuse .ensures)
-
-accept-requires : tie.Need-accept-requires
-accept-requires c κs =
-    let f = fit-parts _ (sym (c .before .is-unfit .ensures) ∙ c .if1 .left) in (f .read-in, f .write-in)
-
-returns-2 : tie.Need-returns-2
-unfolding askRoom
-returns-2 c = rw (sym (c .before .before .is-unfit .ensures) ∙ c .before .if1 .left) (c .accept .ensures)
+returns c = c .answer .ensures ∙ rw (c .before .room-number .ensures)
 
 pub room-spec : {M : Type 1} → statement M
-room-spec =
-    tie.close (tie.spec is-unfit-requires refuse-requires returns accept-requires returns-2)
+room-spec = tie.close (tie.spec room-number-requires answer-requires returns)

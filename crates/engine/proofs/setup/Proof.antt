@@ -1,7 +1,7 @@
-use mathlib.Core.Path.{sym, ap, _∙_}
-use Rattle.model.specs.Calls.{refused, accepted}
-use Rattle.engine.proofs.Unfit.{setup-refused, setup-accepted, ring-some}
-use mathlib.Core.Path.{sym, _∙_}
+use mathlib.Core.Path.{refl, sym, _∙_}
+use Rattle.model.specs.Calls.{setup}
+use Rattle.model.specs.Refusals.{positive, none-first}
+use Rattle.laws.specs.Fit.{fit-parts, fit-fresh}
 use borrow.Author.Needs.{needs}
 use Rattle.engine.proofs.setup.Statement.{statement}
 use Rattle.engine.proofs.setup.Tie as tie
@@ -12,32 +12,20 @@ length-refusal-requires c κs = search needs
 fresh-requires : tie.Need-fresh-requires
 fresh-requires c κs = search needs
 
-accept-requires : tie.Need-accept-requires
-accept-requires c κs =
-    let p = ring-some _ _ (sym (c .before .before .length-refusal .ensures) ∙ c .before .if1 .taken) in rw (c .fresh .ensures) (p, p)
-
-returns : tie.Need-returns
-returns c =
-    c .accept .ensures ∙ ap accepted (c .before .fresh .ensures) ∙ setup-accepted _ _ (sym (c .before .before .before .length-refusal .ensures) ∙ c .before .before .if1 .taken)
-
 fresh-requires-2 : tie.Need-fresh-requires-2
 fresh-requires-2 c κs = search needs
 
-refuse-requires : tie.Need-refuse-requires
-refuse-requires c κs = search needs
+answer-requires : tie.Need-answer-requires
+unfolding positive
+answer-requires c κs e =
+    let f = fit-parts _ (fit-fresh (c .before .before .before .args .ringlength) (c .before .before .before .args .framelength) (none-first _ refl (sym (c .before .before .length-refusal .ensures) ∙ e))) in
+    rw (c .fresh2 .ensures) (record { read-in = f .read-in; write-in = f .write-in })
 
-returns-2 : tie.Need-returns-2
-returns-2 c =
-    c .refuse .ensures ∙ rw (c .before .fresh2 .ensures, c .before .before .before .length-refusal .ensures) (setup-refused _ _ (λ z. c .before .before .if1 .left (c .before .before .before .length-refusal .ensures ∙ z)))
+returns : tie.Need-returns
+unfolding setup
+returns c = c .answer .ensures ∙ rw (c .before .fresh2 .ensures, c .before .before .fresh .ensures, c .before .before .before .length-refusal .ensures)
 
 pub setup-spec : {M : Type 1} → statement M
 setup-spec =
     tie.close
-    (tie.spec
-    length-refusal-requires
-    fresh-requires
-    accept-requires
-    returns
-    fresh-requires-2
-    refuse-requires
-    returns-2)
+    (tie.spec length-refusal-requires fresh-requires fresh-requires-2 answer-requires returns)

@@ -1,4 +1,8 @@
+use mathlib.Core.Path.{sym, ap, _∙_}
+use mathlib.Core.Bool.{not}
 use borrow.Author.Tests.{eq-eqb, ne-eqb}
+use Rattle.model.specs.Choice.{or-left}
+use Rattle.model.specs.Registers.{patternMode}
 use borrow.Author.Needs.{needs}
 use Rattle.judging.proofs.bad_vector_modes.Statement.{statement}
 use Rattle.judging.proofs.bad_vector_modes.Tie as tie
@@ -10,7 +14,7 @@ bits-requires : tie.Need-bits-requires
 bits-requires c κs = search needs
 
 returns : tie.Need-returns
-returns c = rw (← c .before .bits .ensures .0, ne-eqb _ _ (c .if1 .taken))
+returns c = sym (or-left _ _ (ap not (ne-eqb (patternMode (c .before .before .args .t1)) 0b00 (λ z. c .if1 .taken (c .before .bits .ensures .0 ∙ z)))))
 
 bad-bits-requires : tie.Need-bad-bits-requires
 bad-bits-requires c κs = search needs

@@ -17,7 +17,7 @@ same-length : tie.Need-same-length
 same-length c = search needs
 
 returns : tie.Need-returns
-returns c = rw (c .before .before .put .ensures, c .before .before .before .before .combine .ensures, c .before .before .before .before .before .get .ensures) (store-raster _ (c .before .before .before .before .before .before .before .before .pre .1) _ _ _ _ _ _)
+returns c = simp (c .before .before .put .ensures, c .before .before .before .before .combine .ensures, c .before .before .before .before .before .get .ensures) (store-raster _ (c .before .before .before .before .before .before .before .before .pre .1) _ _ _ _ _ _)
 
 pub paint-spec : {M : Type 1} → statement M
 paint-spec = tie.close (tie.spec get-requires combine-requires put-requires same-length returns)

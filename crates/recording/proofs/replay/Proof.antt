@@ -1,6 +1,5 @@
-use mathlib.Core.Path.{refl}
-use borrow.Author.Tests.{eq-eqb, ne-eqb}
 use Rattle.recording.specs.Replay.{replay, replayFrame}
+use mathlib.Core.Path.{refl}
 use borrow.Author.Needs.{needs}
 use Rattle.recording.proofs.replay.Statement.{statement}
 use Rattle.recording.proofs.replay.Tie as tie
@@ -8,12 +7,12 @@ use Rattle.recording.proofs.replay.Tie as tie
 setup-requires : tie.Need-setup-requires
 setup-requires c κs = search needs
 
-number-of-requires : tie.Need-number-of-requires
-number-of-requires c κs = search needs
+is-refused-requires : tie.Need-is-refused-requires
+is-refused-requires c κs = search needs
 
 returns : tie.Need-returns
 unfolding replay replayFrame
-returns c = let e = ne-eqb _ _ (c .if1 .taken) in rw (← c .before .before .setup .ensures, ← c .before .number-of .ensures, e) (refl, refl)
+returns c = rw (← c .before .before .setup .ensures, ← c .before .is-refused .ensures, c .if1 .taken) (refl, refl)
 
 publish-and-run-requires : tie.Need-publish-and-run-requires
 publish-and-run-requires c κs = search needs
@@ -23,14 +22,14 @@ same-length c = search needs
 
 returns-2 : tie.Need-returns-2
 unfolding replay replayFrame
-returns-2 c = let e = eq-eqb _ _ (c .before .before .before .before .if1 .left) in rw (← c .before .before .before .before .before .before .setup .ensures, ← c .before .before .before .before .before .number-of .ensures, e) (c .before .before .publish-and-run .ensures)
+returns-2 c = rw (← c .before .before .before .before .before .before .setup .ensures, ← c .before .before .before .before .before .is-refused .ensures, c .before .before .before .before .if1 .left) (c .before .before .publish-and-run .ensures)
 
 pub replay-spec : {M : Type 1} → statement M
 replay-spec =
     tie.close
     (tie.spec
     setup-requires
-    number-of-requires
+    is-refused-requires
     returns
     publish-and-run-requires
     same-length

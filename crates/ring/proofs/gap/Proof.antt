@@ -6,7 +6,9 @@ use Rattle.ring.proofs.gap.Statement.{statement}
 use Rattle.ring.proofs.gap.Tie as tie
 
 returns : tie.Need-returns
-returns c = (sym (distance-ahead _ _ _ (c .if1 .taken) (c .before .pre .1)), omega arith)
+returns c =
+    let a = c .before .args in
+    (sym (distance-ahead (a .size) (a .from) (a .to) (omega arith) (omega arith)), omega arith)
 
 sub-result : tie.Need-sub-result
 sub-result c = search needs
@@ -15,7 +17,9 @@ add-result : tie.Need-add-result
 add-result c = search needs
 
 returns-2 : tie.Need-returns-2
-returns-2 c = (sym (distance-behind _ _ _ (c .if1 .left) (c .before .pre .0)), omega arith)
+returns-2 c =
+    let a = c .before .args in
+    (sym (distance-behind (a .size) (a .from) (a .to) (omega arith) (omega arith)), omega arith)
 
 pub gap-spec : {M : Type 1} → statement M
 gap-spec = tie.close (tie.spec returns sub-result add-result returns-2)

@@ -1,5 +1,5 @@
-use Rattle.text.specs.Buffers.{put-holds}
 use native.Mathlib.Omega.{arith}
+use Rattle.text.specs.Buffers.{holds}
 use borrow.Author.Needs.{needs}
 use Rattle.text.proofs.bad_line.Statement.{statement}
 use Rattle.text.proofs.bad_line.Tie as tie
@@ -14,7 +14,7 @@ same-length : tie.Need-same-length
 same-length c = search needs
 
 returns : tie.Need-returns
-returns c = put-holds (omega arith) (c .before .before .put .ensures)
+returns c = holds (omega arith) (c .before .before .put .ensures .text-is)
 
 pub bad-line-spec : {M : Type 1} → statement M
 bad-line-spec = tie.close (tie.spec slice-aggregate-put put-requires same-length returns)

@@ -1,48 +1,47 @@
-use Rattle.text.specs.Buffers.{put-then, put-holds}
-use Rattle.text.specs.Lines.{replayLines}
-use native.Mathlib.Omega.{arith}
+use Rattle.text.proofs.Templates.{replayFilled, replay-is}
+use Rattle.text.specs.Buffers.{holds-is}
+use mathlib.Core.Path.{ap, _∙_}
 use borrow.Author.Needs.{needs}
 use Rattle.text.proofs.replay_lines.Statement.{statement}
 use Rattle.text.proofs.replay_lines.Tie as tie
 
-last-number-requires : tie.Need-last-number-requires
-last-number-requires c κs = search needs
+parts-of-requires : tie.Need-parts-of-requires
+parts-of-requires c κs = search needs
 
-units-of-requires : tie.Need-units-of-requires
-units-of-requires c κs = search needs
+cast-t8 : tie.Need-cast-t8
+cast-t8 c = search needs
 
-put-counts-requires : tie.Need-put-counts-requires
-put-counts-requires c κs = search needs
+cast-t9 : tie.Need-cast-t9
+cast-t9 c = search needs
 
-put-ended-requires : tie.Need-put-ended-requires
-put-ended-requires c κs = search needs
+cast-t12 : tie.Need-cast-t12
+cast-t12 c = search needs
 
-slice-aggregate-put-field : tie.Need-slice-aggregate-put-field
-slice-aggregate-put-field c = search needs
+slice-aggregate-fill : tie.Need-slice-aggregate-fill
+slice-aggregate-fill c = search needs
 
-cast-put-field : tie.Need-cast-put-field
-cast-put-field c = search needs
+slice-aggregate-fill-2 : tie.Need-slice-aggregate-fill-2
+slice-aggregate-fill-2 c = search needs
 
-put-field-requires : tie.Need-put-field-requires
-put-field-requires c κs = search needs
+fill-requires : tie.Need-fill-requires
+fill-requires c κs = search needs
 
 same-length : tie.Need-same-length
 same-length c = search needs
 
 returns : tie.Need-returns
-unfolding replayLines
-returns c = put-holds {m = 152} (omega arith) (rw (c .before .before .before .before .before .before .before .before .before .before .before .before .units-of .ensures, c .before .before .before .before .before .before .before .before .before .before .before .before .before .before .last-number .ensures) at (put-then (put-then (c .before .before .before .before .before .before .before .before .before .before .before .put-counts .ensures) (c .before .before .before .before .before .before .before .put-ended .ensures)) (c .before .before .put-field .ensures)))
+returns c = holds-is (ap (replayFilled (c .before .before .before .before .before .before .before .before .before .before .before .before .before .args .a .state)) (c .before .before .before .before .before .before .before .before .before .parts-of .ensures) ∙ replay-is (c .before .before .before .before .before .before .before .before .before .before .before .before .before .args .a .state) (c .before .before .before .before .before .before .before .before .before .before .before .before .before .args .a .reply)) (c .before .before .fill .ensures)
 
 pub replay-lines-spec : {M : Type 1} → statement M
 replay-lines-spec =
     tie.close
     (tie.spec
-    last-number-requires
-    units-of-requires
-    put-counts-requires
-    put-ended-requires
-    slice-aggregate-put-field
-    cast-put-field
-    put-field-requires
+    parts-of-requires
+    cast-t8
+    cast-t9
+    cast-t12
+    slice-aggregate-fill
+    slice-aggregate-fill-2
+    fill-requires
     same-length
     returns)

@@ -2,7 +2,7 @@ use mathlib.Core.Path.{_≡_, refl, _∙_}
 use mathlib.Core.List.{[]}
 use borrow.Author.Needs.{needs}
 use lib.ListN.{length}
-use Rattle.recording.specs.Trace.{held, beginOf, Reached, reached-then}
+use Rattle.tracing.specs.Trace.{held, beginOf, Reached, reached-then}
 use Rattle.trace.proofs.records.Statement.{statement}
 use Rattle.trace.proofs.records.Tie as tie
 

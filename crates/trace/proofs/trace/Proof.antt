@@ -3,14 +3,14 @@ use borrow.Author.Needs.{needs}
 use Rattle.trace.proofs.trace.Statement.{statement}
 use Rattle.trace.proofs.trace.Tie as tie
 
-line-buffer-requires : tie.Need-line-buffer-requires
-line-buffer-requires c κs = search needs
+buffer-requires : tie.Need-buffer-requires
+buffer-requires c κs = search needs
 
-slice-aggregate-trace-begin : tie.Need-slice-aggregate-trace-begin
-slice-aggregate-trace-begin c = search needs
+slice-aggregate-first-step : tie.Need-slice-aggregate-first-step
+slice-aggregate-first-step c = search needs
 
-trace-begin-requires : tie.Need-trace-begin-requires
-trace-begin-requires c κs = search needs
+first-step-requires : tie.Need-first-step-requires
+first-step-requires c κs = search needs
 
 array-share-prefix-line : tie.Need-array-share-prefix-line
 array-share-prefix-line c = search needs
@@ -25,7 +25,7 @@ returns : tie.Need-returns
 returns c = search needs
 
 go-on-requires : tie.Need-go-on-requires
-go-on-requires c κs = (sym (c .before .before .before .before .before .trace-begin .ensures .more-is) ∙ c .if2 .taken, c .before .before .before .before .before .trace-begin .ensures .state-is)
+go-on-requires c κs = (sym (c .before .before .before .before .before .first-step .ensures .more-is) ∙ c .if2 .taken, c .before .before .before .before .before .first-step .ensures .state-is)
 
 returns-2 : tie.Need-returns-2
 returns-2 c = search needs
@@ -37,9 +37,9 @@ pub trace-spec : {M : Type 1} → statement M
 trace-spec =
     tie.close
     (tie.spec
-    line-buffer-requires
-    slice-aggregate-trace-begin
-    trace-begin-requires
+    buffer-requires
+    slice-aggregate-first-step
+    first-step-requires
     array-share-prefix-line
     slice-aggregate-write
     write-requires

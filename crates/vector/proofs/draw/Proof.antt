@@ -20,14 +20,11 @@ Inv-loop f₀ v k n depth offset source op s₀ i₀ f s i =
 abbrev μ-loop : tie.MeasureT-loop
 μ-loop f₀ v k n depth offset source op s₀ i₀ f s i = n - i
 
-prepare-requires : tie.Need-prepare-requires Inv-loop μ-loop
-prepare-requires c κs = tt
-
-place-requires : tie.Need-place-requires Inv-loop μ-loop
-place-requires c κs = (c .before .before .pre .0 .ranged, omega arith)
+position-of-requires : tie.Need-position-of-requires Inv-loop μ-loop
+position-of-requires c κs = (c .before .before .pre .0 .ranged, omega arith)
 
 loop-holds : tie.Need-loop-holds Inv-loop μ-loop
-loop-holds c = (omega arith, rw add-zero (c .place .ensures), refl, rw (add-zero, sub-zero))
+loop-holds c = (omega arith, rw add-zero (c .position-of .ensures), refl, rw (add-zero, sub-zero))
 
 add-at : tie.Need-add-at Inv-loop μ-loop
 add-at c =
@@ -47,12 +44,6 @@ next-requires c κs =
     let r = c .before .before .before .before .before .before .before .before .before .pre .0 .ranged in
     (r, position-near _ (c .before .before .before .before .before .before .before .before .before .args .k + c .before .before .before .before .before .loop .i) r (omega arith) (c .before .before .before .before .before .loop .inv .1))
 
-add-i : tie.Need-add-i Inv-loop μ-loop
-add-i c = omega arith
-
-loop-less : tie.Need-loop-less Inv-loop μ-loop
-loop-less c = omega arith
-
 loop-again : tie.Need-loop-again Inv-loop μ-loop
 loop-again c =
     let a = c .before .before .before .before .before .before .before .before .before .before .args in
@@ -63,12 +54,9 @@ loop-again c =
     let e : a .k + (i + 1) ≡ a .k + i + 1 = omega arith in (
       omega arith,
       rw e (c .next .ensures ∙ position-next _ _ (h .1)),
-      ap length p ∙ length-store _ _ _ _ ∙ h .2,
+      rw (p, length-store) (h .2),
       rw (p, o .1, o .2) (draw-more _ (a .k) (a .n) i _ (c .before .before .before .before .before .loop-test .taken) (h .1) ∙ h .3),
     )
-
-same-length : tie.Need-same-length Inv-loop μ-loop
-same-length c = c .before .loop .inv .2
 
 returns : tie.Need-returns Inv-loop μ-loop
 returns c = sym (draw-none _ _ _ _ (omega arith)) ∙ c .before .loop .inv .3
@@ -76,18 +64,6 @@ returns c = sym (draw-none _ _ _ _ (omega arith)) ∙ c .before .loop .inv .3
 pub draw-spec : {M : Type 1} → statement M
 draw-spec =
     tie.close
-    (tie.spec
-    Inv-loop
-    μ-loop
-    prepare-requires
-    place-requires
-    loop-holds
-    add-at
-    sub-at
-    paint-requires
-    next-requires
-    add-i
-    loop-less
-    loop-again
-    same-length
-    returns)
+    (tie.spec Inv-loop μ-loop
+    (λ c κs. tt) position-of-requires loop-holds add-at sub-at paint-requires next-requires (λ c. omega arith) (λ c. omega arith) loop-again
+    (λ c. c .before .loop .inv .2) returns)

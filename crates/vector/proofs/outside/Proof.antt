@@ -1,80 +1,37 @@
--- The loop has looked at k pixels and found none outside.
-use Prim.Native.Nat.{_-_, _≤_}
-use mathlib.Core.Path.{_≡_, _∙_}
-use mathlib.Core.Bool.{false}
+-- By the last pixel where that is enough, else by the extent.
+use Prim.Native.Nat.{_-_}
+use mathlib.Core.Path.{sym, ap, _∙_}
 use native.Mathlib.Omega.{arith}
-use Rattle.model.specs.VectorPixel.{position}
+use borrow.Author.Needs.{needs}
 use Rattle.laws.specs.Pixels.{depth-most}
-use Rattle.laws.specs.Walks.{position-near, position-next}
-use Rattle.vector.proofs.Frames.{someOutside, none-outside, next-inside, is-outside, is-inside, pixel-in, pixel-below, pixel-above}
+use Rattle.laws.specs.Walks.{Near, position-near}
+use Rattle.vector.proofs.Frames.{is-near, extent-tells}
 use Rattle.vector.proofs.outside.Statement.{statement}
 use Rattle.vector.proofs.outside.Tie as tie
 
-abbrev Inv-loop : tie.InvT-loop
-Inv-loop framelength v depth length offset s₀ k₀ s k = (k ≤ v .length) × (s ≡ position v k) × (someOutside framelength v k ≡ false)
+last : (c : tie.After-position-of) → Near (c .position-of .result)
+last c = position-near _ (c .before .before .args .v .length - 1) (c .before .before .pre) (omega arith) (c .position-of .ensures)
 
-abbrev μ-loop : tie.MeasureT-loop
-μ-loop framelength v depth length offset s₀ k₀ s k = v .length - k
+add-top : tie.Need-add-top
+add-top c = omega (arith, c .before .before .before .pre .offset-most, last (c .before))
 
-start-requires : tie.Need-start-requires Inv-loop μ-loop
-start-requires c κs = tt
+add-if2 : tie.Need-add-if2
+add-if2 c = omega (arith, c .before .before .before .before .pre .offset-most, depth-most (c .before .before .before .before .pre .deep), last (c .before .before))
 
-loop-holds : tie.Need-loop-holds Inv-loop μ-loop
-loop-holds c = (omega arith, c .start .ensures, none-outside _ _)
-
-add-sum : tie.Need-add-sum Inv-loop μ-loop
-add-sum c = omega (arith, c .before .before .before .pre .offset-most, position-near _ (c .before .loop .k) (c .before .before .before .pre) (omega arith) (c .before .loop .inv .1))
-
-returns : tie.Need-returns Inv-loop μ-loop
+returns : tie.Need-returns
 returns c =
-    let l = c .before .before .loop in
-    is-outside _ _ (l .k) (l .inv .1) (c .before .loop-test .taken) (pixel-below _ _ _ _ (c .before .before .before .before .pre .deep) (c .if1 .taken))
+    let a = c .before .before .before .before .before .args in
+    sym (is-near (a .framelength) (a .v) (a .v .length - 1) (c .before .before .before .before .before .pre) (c .before .before .before .position-of .ensures) (omega (arith, c .before .before .before .before .before .pre .long)) (omega arith) (omega arith))
 
-add-if2 : tie.Need-add-if2 Inv-loop μ-loop
-add-if2 c =
-    let p = c .before .before .before .before .pre in
-    omega (arith, p .offset-most, depth-most (p .deep), position-near _ (c .before .before .loop .k) p (omega arith) (c .before .before .loop .inv .1))
+returns-2 : tie.Need-returns-2
+returns-2 c = extent-tells _ _ (sym (c .enum-told .given .1) ∙ c .before .before .extent .ensures)
 
-returns-2 : tie.Need-returns-2 Inv-loop μ-loop
-returns-2 c =
-    let l = c .before .before .before .loop in
-    let h = pixel-above _ _ _ _ (c .before .before .before .before .before .pre .deep) (c .before .if1 .left) (c .if2 .taken) in
-    is-outside _ _ (l .k) (l .inv .1) (c .before .before .loop-test .taken) h
-
-next-requires : tie.Need-next-requires Inv-loop μ-loop
-next-requires c κs = let p = c .before .before .before .before .before .pre in (p, position-near _ (c .before .before .before .loop .k) p (omega arith) (c .before .before .before .loop .inv .1))
-
-add-k : tie.Need-add-k Inv-loop μ-loop
-add-k c = omega arith
-
-loop-less : tie.Need-loop-less Inv-loop μ-loop
-loop-less c = omega arith
-
-loop-again : tie.Need-loop-again Inv-loop μ-loop
-loop-again c =
-    let h = c .before .before .before .before .loop .inv in (
-      omega arith,
-      c .next .ensures ∙ position-next _ _ (h .1),
-      next-inside _ _ _ (h .1) (h .2) (pixel-in _ _ _ _ (c .before .before .if1 .left) (c .before .if2 .left)),
-    )
-
-returns-3 : tie.Need-returns-3 Inv-loop μ-loop
-returns-3 c = is-inside _ _ (c .before .loop .k) (omega arith) (c .before .loop .inv .2)
+returns-3 : tie.Need-returns-3
+returns-3 c = extent-tells _ _ (sym (c .enum-told2 .given .1) ∙ c .before .before .extent .ensures)
 
 pub outside-spec : {M : Type 1} → statement M
 outside-spec =
     tie.close
     (tie.spec
-    Inv-loop
-    μ-loop
-    start-requires
-    loop-holds
-    add-sum
-    returns
-    add-if2
-    returns-2
-    next-requires
-    add-k
-    loop-less
-    loop-again
-    returns-3)
+    (search needs) (λ c κs. search needs) add-top add-if2 returns (λ c κs. search needs) (search needs) (search needs)
+    returns-2 returns-3)

@@ -1,0 +1,15 @@
+use borrow.Author.Tests.{eq-eqb, ne-eqb}
+use Rattle.crc.specs.Crc.{crcBit}
+use Rattle.crc.proofs.crc_bit.Statement.{statement}
+use Rattle.crc.proofs.crc_bit.Tie as tie
+
+returns : tie.Need-returns
+unfolding crcBit
+returns c = rw (eq-eqb _ _ (c .if1 .taken))
+
+returns-2 : tie.Need-returns-2
+unfolding crcBit
+returns-2 c = rw (ne-eqb _ _ (c .if1 .left))
+
+pub crc-bit-spec : {M : Type 1} → statement M
+crc-bit-spec = tie.close (tie.spec returns returns-2)

@@ -1,0 +1,66 @@
+use borrow.Author.Needs.{needs}
+use Prim.Native.Nat.{_-_}
+use mathlib.Core.Path.{_∙_}
+use native.Mathlib.Omega.{arith}
+use Rattle.model.specs.BltPixel.{sourceValue, drawAt}
+use Rattle.laws.specs.Order.{Remain, remain-all, remain-next, remain-none}
+use Rattle.laws.specs.Rows.{length-at, solid-drawn, row-reached, row-along, row-at, row-in}
+use Rattle.rows.proofs.solid.Statement.{statement}
+use Rattle.rows.proofs.solid.Tie as tie
+
+abbrev Inv-loop : tie.InvT-loop
+Inv-loop f₀ b color value i j n op to m₀ f m = Remain (λ x. drawAt b x j) i n f₀ m f
+
+abbrev μ-loop : tie.MeasureT-loop
+μ-loop f₀ b color value i j n op to m₀ f m = n - m
+
+prepare-requires : tie.Need-prepare-requires Inv-loop μ-loop
+prepare-requires c κs = search needs
+
+pixel-byte-requires : tie.Need-pixel-byte-requires Inv-loop μ-loop
+pixel-byte-requires c κs = row-reached (c .before .before .before .pre .0) (omega (arith, c .before .before .before .pre .1))
+
+loop-holds : tie.Need-loop-holds Inv-loop μ-loop
+loop-holds c = remain-all _
+
+along-requires : tie.Need-along-requires Inv-loop μ-loop
+along-requires c κs = row-along (c .before .before .before .before .before .before .before .before .pre .0) (c .before .before .loop-test .taken) (c .before .before .before .loop .inv .same) (c .before .before .before .before .pixel-byte .ensures)
+
+paint-requires : tie.Need-paint-requires Inv-loop μ-loop
+paint-requires c κs = let r = row-in (c .before .before .before .before .before .before .before .before .before .before .pre .0) (c .before .before .before .before .loop-test .taken) (c .before .before .before .before .before .loop .inv .same) (row-at (c .before .before .before .before .before .before .before .before .before .before .pre .0) (c .before .before .before .before .loop-test .taken) (c .before .before .before .before .before .loop .inv .same) (c .before .before .before .before .before .before .pixel-byte .ensures) (c .before .along .ensures)) in (c .before .before .before .before .before .before .before .before .prepare .ensures .0, r .0, r .1)
+
+add-m : tie.Need-add-m Inv-loop μ-loop
+add-m c = omega arith
+
+loop-less : tie.Need-loop-less Inv-loop μ-loop
+loop-less c = omega arith
+
+loop-again : tie.Need-loop-again Inv-loop μ-loop
+unfolding sourceValue
+loop-again c =
+    remain-next (λ x. length-at (c .before .before .before .before .before .before .before .before .before .before .before .before .before .args .b) x (c .before .before .before .before .before .before .before .before .before .before .before .before .before .args .j)) (c .before .before .before .before .before .before .before .before .loop .inv) (c .before .before .before .before .before .before .before .loop-test .taken)
+    (c .before .before .paint .ensures
+    ∙ solid-drawn (c .before .before .before .before .before .before .before .before .before .before .before .before .before .args .b) _ _ _ (c .before .before .before .before .before .before .before .before .before .before .before .prepare .ensures .1) (row-at (c .before .before .before .before .before .before .before .before .before .before .before .before .before .pre .0) (c .before .before .before .before .before .before .before .loop-test .taken) (c .before .before .before .before .before .before .before .before .loop .inv .same) (c .before .before .before .before .before .before .before .before .before .pixel-byte .ensures) (c .before .before .before .before .along .ensures)) (c .before .before .before .before .before .before .before .before .before .before .before .before .before .pre .2) (c .before .before .before .before .before .before .before .before .before .before .before .prepare .ensures .2) (rw (c .before .before .before .before .before .before .before .before .before .before .before .before .before .pre .3)))
+
+same-length : tie.Need-same-length Inv-loop μ-loop
+same-length c = c .before .loop .inv .same
+
+returns : tie.Need-returns Inv-loop μ-loop
+returns c = remain-none (c .before .loop .inv) (omega arith)
+
+pub solid-spec : {M : Type 1} → statement M
+solid-spec =
+    tie.close
+    (tie.spec
+    Inv-loop
+    μ-loop
+    prepare-requires
+    pixel-byte-requires
+    loop-holds
+    along-requires
+    paint-requires
+    add-m
+    loop-less
+    loop-again
+    same-length
+    returns)
