@@ -1,21 +1,24 @@
 // A BLT: what its registers describe, and its pixels drawn row by row.
 ghost use mathlib.Core.Path.{_≡_};
-ghost use Prim.Native.Nat.{_+_, _≤_, _<_};
+ghost use Prim.Native.Nat.{_+_, _-_, _≤_, _<_};
 ghost use lib.ListN.{length};
 ghost use Rattle.model.specs.Limits.{frameMost};
 ghost use Rattle.model.specs.Bits.{field};
 ghost use Rattle.model.specs.Registers.{registerCount, word};
 ghost use Rattle.model.specs.Rectangle.{pixelsOf};
-ghost use Rattle.model.specs.BltPixel.{rectangleOf, sourceOf, patternOf, bltOf};
+ghost use Rattle.model.specs.BltPixel.{rectangleOf, monoMode, rowStride, bytesOf, monoSourceOf, patternOf, bltOf};
 ghost use Rattle.model.specs.declared.Pattern.the-variants.{Solid};
+ghost use Rattle.model.specs.declared.Source.the-variants.{Bits};
 ghost use Rattle.laws.specs.Order.{bltPixels};
 ghost use Rattle.laws.specs.Ranges.{FitBlt};
 ghost use Rattle.laws.specs.Rows.{Row, rowPixels};
+ghost use Rattle.laws.specs.Fills.{isOpaque};
 use model::Axis;
 use model::BLT_MODE;
 use model::Blt;
 use model::DST_OFFSET;
 use model::MonoPattern;
+use model::MonoSource;
 use model::PAT_COLOR_0;
 use model::PAT_COLOR_1;
 use model::PAT_DATA_0;
@@ -24,6 +27,7 @@ use model::Pattern;
 use model::RASTER_MODE;
 use model::REGISTERS;
 use model::Rectangle;
+use model::SRC_COLOR_BG;
 use model::SRC_COLOR_FG;
 use model::SRC_OFFSET;
 use model::STRIDE;
@@ -69,16 +73,97 @@ fn rectangle_of(registers: [u32; REGISTERS], offset: usize, stride: usize) -> Re
     }
 }
 
-// Where the source values come from.
-fn source_of(registers: [u32; REGISTERS]) -> Source
-    ensures { λ r. ⌜ r ≡ sourceOf registers ⌝ }
+// Whether the source mode is mono.
+fn is_mono(registers: [u32; REGISTERS]) -> bool
+    ensures { λ r. ⌜ r ≡ monoMode registers ⌝ }
 {
-    if bits(registers, BLT_MODE, 1, 0) == 0b01 {
-        let offset = number(registers, SRC_OFFSET, 23, 0);
-        let stride = number(registers, STRIDE, 31, 16);
-        return Source::Frame(rectangle_of(registers, offset, stride));
+    let mode = bits(registers, BLT_MODE, 7, 6);
+    if mode == 0b01 {
+        return true;
     }
-    Source::Unselected(registers[SRC_COLOR_FG])
+    mode == 0b10
+}
+
+// The bytes from one row of a mono source's bits to the next.
+fn row_stride(registers: [u32; REGISTERS]) -> usize
+    ensures { λ r. ⌜ r ≡ rowStride registers ⌝ }
+{
+    if bits(registers, BLT_MODE, 7, 6) == 0b10 {
+        let skip = number(registers, SRC_OFFSET, 28, 26);
+        let width = number(registers, WID_HEIGHT, 27, 16);
+        return (skip + width + 7) / 8;
+    }
+    number(registers, STRIDE, 31, 16)
+}
+
+// One less, or 0.
+fn less_one(n: usize) -> usize
+    ensures { λ r. ⌜ r ≡ n - 1 ⌝ }
+{
+    if n == 0 {
+        return 0;
+    }
+    n - 1
+}
+
+// The bytes that hold a mono source's bits.
+fn bytes_of(registers: [u32; REGISTERS]) -> Rectangle
+    ensures { λ r. ⌜ r ≡ bytesOf registers ⌝ }
+{
+    let last = less_one(number(registers, WID_HEIGHT, 27, 16));
+    Rectangle {
+        offset: number(registers, SRC_OFFSET, 23, 0),
+        depth: 1,
+        columns: Axis {
+            count: (number(registers, SRC_OFFSET, 28, 26) + last) / 8 + 1,
+            step: 1,
+            negative: false,
+        },
+        rows: Axis {
+            count: number(registers, WID_HEIGHT, 11, 0),
+            step: row_stride(registers),
+            negative: fields::is_set(registers[BLT_MODE], 8),
+        },
+    }
+}
+
+// The mono source.
+fn mono_source_of(registers: [u32; REGISTERS]) -> MonoSource
+    ensures { λ r. ⌜ r ≡ monoSourceOf registers ⌝ }
+{
+    MonoSource {
+        bytes: bytes_of(registers),
+        skip: number(registers, SRC_OFFSET, 28, 26),
+        foreground: registers[SRC_COLOR_FG],
+        background: registers[SRC_COLOR_BG],
+        inversion: fields::is_set(registers[RASTER_MODE], 13),
+        transparent: fields::is_set(registers[RASTER_MODE], 11),
+    }
+}
+
+// Where the pixels are drawn.
+pub fn destination_of(registers: [u32; REGISTERS]) -> Rectangle
+    ensures { λ r. ⌜ r ≡ bltOf registers .destination ⌝ }
+{
+    let offset = number(registers, DST_OFFSET, 23, 0);
+    let stride = number(registers, STRIDE, 15, 0);
+    rectangle_of(registers, offset, stride)
+}
+
+// Where the source values come from.
+pub fn source_of(registers: [u32; REGISTERS]) -> Source
+    ensures { λ r. ⌜ r ≡ bltOf registers .source ⌝ }
+{
+    if bits(registers, BLT_MODE, 1, 0) != 0b01 {
+        return Source::Unselected(registers[SRC_COLOR_FG]);
+    }
+    let mono = is_mono(registers);
+    if mono {
+        return Source::Bits(mono_source_of(registers));
+    }
+    let offset = number(registers, SRC_OFFSET, 23, 0);
+    let stride = number(registers, STRIDE, 31, 16);
+    Source::Frame(rectangle_of(registers, offset, stride))
 }
 
 // Where the pattern values come from.
@@ -103,10 +188,8 @@ fn pattern_of(registers: [u32; REGISTERS]) -> Pattern
 pub fn blt_of(registers: [u32; REGISTERS]) -> Blt
     ensures { λ r. ⌜ r ≡ bltOf registers ⌝ }
 {
-    let offset = number(registers, DST_OFFSET, 23, 0);
-    let stride = number(registers, STRIDE, 15, 0);
     Blt {
-        destination: rectangle_of(registers, offset, stride),
+        destination: destination_of(registers),
         source: source_of(registers),
         pattern: pattern_of(registers),
         code: bits(registers, RASTER_MODE, 7, 0),
@@ -115,20 +198,48 @@ pub fn blt_of(registers: [u32; REGISTERS]) -> Blt
 
 // ---- pixels
 
+// Whether a source gives every pixel a value.
+fn is_opaque(s: Source) -> bool
+    ensures { λ r. ⌜ r ≡ isOpaque s ⌝ }
+{
+    match s {
+        Source::Unselected(_) => true,
+        Source::Frame(_) => true,
+        Source::Bits(m) => !m.transparent,
+    }
+}
+
+// Draws n pixels of one row of a BLT with a solid pattern and a mono source by the row for its code.
+fn bits_row(f: &mut [u8], b: Blt, color: u32, s: MonoSource, i: usize, j: usize, n: usize)
+    requires { ⌜ (Row (length (now f)) b i j n) × (0 < n) × (b .pattern ≡ Solid color) × (b .source ≡ Bits s) ⌝ }
+    ensures { λ _. ⌜ now (f .exit) ≡ rowPixels b i j n (now (f .entry)) ⌝ }
+{
+    let code = b.code;
+    if code == 0xCC {
+        rows::copy_bits(f, b, color, s, i, j, n);
+        return;
+    }
+    rows::solid_bits(f, b, color, s, i, j, n);
+}
+
 // Draws n pixels of one row of a BLT with a solid pattern by the row for its code and source.
 fn solid_row(f: &mut [u8], b: Blt, color: u32, i: usize, j: usize, n: usize)
     requires { ⌜ (Row (length (now f)) b i j n) × (0 < n) × (b .pattern ≡ Solid color) ⌝ }
     ensures { λ _. ⌜ now (f .exit) ≡ rowPixels b i j n (now (f .entry)) ⌝ }
 {
     let code = b.code;
-    if code == 0xF0 {
-        rows::fill(f, b, color, i, j, n);
-        return;
-    }
     let s = b.source;
+    if code == 0xF0 {
+        let opaque = is_opaque(s);
+        if opaque {
+            rows::fill(f, b, color, i, j, n);
+            return;
+        }
+    }
     match s {
         Source::Unselected(value) => rows::solid(f, b, color, value, i, j, n),
         Source::Frame(r) => rows::solid_source(f, b, color, r, i, j, n),
+        Source::Bits(m) => bits_row(f, b, color, m, i, j, n),
     }
 }
 

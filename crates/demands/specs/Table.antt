@@ -5,7 +5,6 @@ use mathlib.Core.Path.{_≡_, refl, sym, subst, _∙_}
 use mathlib.Core.Bool.{Bool, true, false}
 use mathlib.Core.Logic.{_⊎_, inl, inr, ⊎-elim, _↔_}
 use mathlib.Core.List.{List}
-use native.Mathlib.Omega.{arith}
 use lib.ListN.{length}
 use borrow.Author.Tests.{ltb-true, leb-true, lt-ltb, le-leb, eqb-true}
 use Rattle.model.specs.Choice.{_<?_, _=?_, if_then_else_, not-both, either, or-left, or-right}
@@ -26,7 +25,7 @@ use Rattle.model.specs.declared.Primitive.{Primitive}
 use Rattle.model.specs.declared.Primitive.the-variants.{Blt, Vector}
 use Rattle.model.specs.declared.Rectangle.{Rectangle}
 use Rattle.model.specs.declared.Source.{Source}
-use Rattle.model.specs.declared.Source.the-variants.{Unselected, Frame}
+use Rattle.model.specs.declared.Source.the-variants.{Unselected, Frame, Bits}
 use Rattle.laws.specs.Some.{some-found, some-at}
 use Rattle.laws.specs.Fit.{command-rises}
 
@@ -60,9 +59,14 @@ DestinationOutside Vector registers framelength =
     let v = vectorOf registers in
     PixelOutside framelength (v .depth) (v .length) (v .offset) (λ k. position v k .plus) (λ k. position v k .minus)
 
+-- some byte that a source reads lies outside: one of a colour source's pixels, or one of those that hold a mono source's bits
+abbrev pub ReadOutside : ℕ → Source → Type 0
+ReadOutside framelength (Unselected color) = ⊥
+ReadOutside framelength (Frame r) = RectangleOutside framelength r
+ReadOutside framelength (Bits m) = RectangleOutside framelength (m .bytes)
+
 abbrev pub SourceOutside : Primitive → List ℕ → ℕ → Type 0
-SourceOutside Blt registers framelength =
-    (r : Rectangle) × (bltOf registers .source ≡ Frame r) × RectangleOutside framelength r
+SourceOutside Blt registers framelength = ReadOutside framelength (bltOf registers .source)
 SourceOutside Vector registers framelength = ⊥
 
 pub record Table : Type 0 where
@@ -141,16 +145,10 @@ row28-is : (primitive : Primitive) (registers : List ℕ) (framelength : ℕ)
 row28-is Vector registers framelength = ((λ e. absurd (not-both false e refl)), (λ h. absurd h))
 row28-is Blt registers framelength = go (bltOf registers .source)
   where
-    go : (source : Source) → (sourceOutside framelength source ≡ true)
-        ↔ ((r : Rectangle) × (source ≡ Frame r) × RectangleOutside framelength r)
-    go (Unselected color) = (
-      (λ e. absurd (not-both false e refl)),
-      (λ h. let e = h .1 in let z : _≡_ {A = ℕ} 0 1 = cc in absurd (omega arith)),
-    )
-    go (Frame r) = (
-      (λ e. (r, refl, pixel-outside framelength _ _ _ _ _ .0 e)),
-      (λ h. subst (λ (s : Source). sourceOutside framelength s ≡ true) (sym (h .1)) (pixel-outside framelength _ _ _ _ _ .1 (h .2))),
-    )
+    go : (source : Source) → (sourceOutside framelength source ≡ true) ↔ ReadOutside framelength source
+    go (Unselected color) = ((λ e. absurd (not-both false e refl)), (λ h. absurd h))
+    go (Frame r) = pixel-outside framelength _ _ _ _ _
+    go (Bits m) = pixel-outside framelength _ _ _ _ _
 
 -- ---- the theorem
 

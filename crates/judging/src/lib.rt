@@ -2,10 +2,10 @@
 ghost use mathlib.Core.Path.{_≡_};
 ghost use mathlib.Core.Bool.{Bool};
 ghost use Rattle.model.specs.BltPixel.{sourceOutside};
-ghost use Rattle.model.specs.Judging.{refusedFormat, row23, row24Both, row24, row25, judge};
+ghost use Rattle.model.specs.Judging.{refusedFormat, row23, row24Both, sourceBits, monoBack, row24Source, row24, row25, judge};
 ghost use Rattle.model.specs.declared.Primitive.the-variants.{Blt as BltPrimitive, Vector as VectorPrimitive};
+ghost use Rattle.laws.specs.Ranges.{RangedSource};
 ghost use Rattle.laws.specs.Some.{isOutside};
-ghost use Rattle.judging.specs.Extents.{RangedSource};
 use model::BASE_OFFSET;
 use model::BLT_MODE;
 use model::CH3_MODE_STR;
@@ -43,20 +43,11 @@ fn bad_format(registers: [u32; REGISTERS]) -> bool
 
 // ---- 24
 
-// Of BLTs and vectors: source transparency, an inversion, channel 3, a base offset.
+// Of BLTs and vectors: pattern inversion, channel 3, a base offset.
 fn bad_bits(registers: [u32; REGISTERS]) -> bool
     ensures { λ r. ⌜ r ≡ row24Both registers ⌝ }
 {
-    let mode = registers[RASTER_MODE];
-    let transparent = fields::is_set(mode, 11);
-    if transparent {
-        return true;
-    }
-    let source = fields::is_set(mode, 13);
-    if source {
-        return true;
-    }
-    let pattern = fields::is_set(mode, 12);
+    let pattern = fields::is_set(registers[RASTER_MODE], 12);
     if pattern {
         return true;
     }
@@ -68,14 +59,63 @@ fn bad_bits(registers: [u32; REGISTERS]) -> bool
     base != 0
 }
 
-// Of a BLT: a source or pattern mode that is not carried, or one of those bits.
+// Source transparency or source inversion.
+fn has_source_bits(registers: [u32; REGISTERS]) -> bool
+    ensures { λ r. ⌜ r ≡ sourceBits registers ⌝ }
+{
+    let mode = registers[RASTER_MODE];
+    let transparent = fields::is_set(mode, 11);
+    if transparent {
+        return true;
+    }
+    fields::is_set(mode, 13)
+}
+
+// A mono source in frame memory with X negative, or byte-packed with Y negative.
+fn is_mono_back(registers: [u32; REGISTERS]) -> bool
+    ensures { λ r. ⌜ r ≡ monoBack registers ⌝ }
+{
+    let blt = registers[BLT_MODE];
+    if fields::bits(blt, 1, 0) != 0b01 {
+        return false;
+    }
+    let mode = fields::bits(blt, 7, 6);
+    let left = fields::is_set(blt, 9);
+    if mode == 0b01 {
+        return left;
+    }
+    if mode != 0b10 {
+        return false;
+    }
+    if left {
+        return true;
+    }
+    fields::is_set(blt, 8)
+}
+
+// Of a BLT's source: that, or source transparency or inversion of a colour source.
+fn bad_source(registers: [u32; REGISTERS]) -> bool
+    ensures { λ r. ⌜ r ≡ row24Source registers ⌝ }
+{
+    let back = is_mono_back(registers);
+    if back {
+        return true;
+    }
+    let mode = fields::bits(registers[BLT_MODE], 7, 6);
+    if mode != 0b00 {
+        return false;
+    }
+    has_source_bits(registers)
+}
+
+// Of a BLT: a source or pattern mode that is not carried, a bad source, or one of the bits for both.
 fn bad_blt_modes(registers: [u32; REGISTERS]) -> bool
     ensures { λ r. ⌜ r ≡ row24 registers BltPrimitive ⌝ }
 {
     let blt = registers[BLT_MODE];
     let raster = registers[RASTER_MODE];
     let mode = fields::bits(blt, 7, 6);
-    if mode != 0b00 {
+    if mode == 0b11 {
         return true;
     }
     let select = fields::bits(blt, 1, 0);
@@ -86,16 +126,24 @@ fn bad_blt_modes(registers: [u32; REGISTERS]) -> bool
     if 0b01 < pattern {
         return true;
     }
+    let source = bad_source(registers);
+    if source {
+        return true;
+    }
     bad_bits(registers)
 }
 
-// Of a vector: a pattern that is not solid, or one of those bits.
+// Of a vector: a pattern that is not solid, source transparency or inversion, or one of the bits for both.
 fn bad_vector_modes(registers: [u32; REGISTERS]) -> bool
     ensures { λ r. ⌜ r ≡ row24 registers VectorPrimitive ⌝ }
 {
     let raster = registers[RASTER_MODE];
     let pattern = fields::bits(raster, 9, 8);
     if pattern != 0b00 {
+        return true;
+    }
+    let source = has_source_bits(registers);
+    if source {
         return true;
     }
     bad_bits(registers)
@@ -127,7 +175,7 @@ fn is_outside(extent: Extent) -> bool
     }
 }
 
-// Some byte of some source pixel lies outside.
+// Some byte of some source pixel, or of the bits of a mono source, lies outside.
 fn source_outside(framelength: usize, source: Source) -> bool
     requires { ⌜ RangedSource source ⌝ }
     ensures { λ r. ⌜ r ≡ sourceOutside framelength source ⌝ }
@@ -135,6 +183,10 @@ fn source_outside(framelength: usize, source: Source) -> bool
     match source {
         Source::Unselected(_) => false,
         Source::Frame(r) => is_outside(rectangle::extent(framelength, r)),
+        Source::Bits(m) => {
+            let bytes = m.bytes;
+            is_outside(rectangle::extent(framelength, bytes))
+        }
     }
 }
 
@@ -156,13 +208,12 @@ fn judge_blt(registers: [u32; REGISTERS], framelength: usize) -> u32
     if empty {
         return 25;
     }
-    let b = blt::blt_of(registers);
-    let destination = b.destination;
+    let destination = blt::destination_of(registers);
     let to = is_outside(rectangle::extent(framelength, destination));
     if to {
         return 27;
     }
-    let source = b.source;
+    let source = blt::source_of(registers);
     let from = source_outside(framelength, source);
     if from {
         return 28;

@@ -2,21 +2,25 @@
 -- of the pixels does not matter. Everything is over the byte count.
 use Prim.Native.Nat.{ℕ, zero, suc, _+_, _-_, _*_, _/_, _%_, _^_, _≤_, _<_}
 use mathlib.Core.Path.{_≡_, refl, sym, ap, _∙_}
-use mathlib.Core.Bool.{Bool, true, false}
+use mathlib.Core.Bool.{Bool, true, false, not}
 use mathlib.Core.List.{List, [], _∷_, _++_}
 use native.Mathlib.Omega.{arith}
 use native.Mathlib.Nat.{suc-mul, add-assoc, mul-div-cancel, mul-le-mul-right}
 use lib.ListN.{length, set, take, drop, take-append-drop, length-drop, length-set}
 use lib.Seq.{set-comm, set-append-left, length-take-le}
-use Rattle.model.specs.Choice.{if_then_else_}
+use Rattle.model.specs.Choice.{_=?_, if_then_else_, not-both}
 use Rattle.model.specs.Pixel.{storePixel}
 use Rattle.model.specs.Raster.{raster, raster-pattern}
 use Rattle.model.specs.Bounds.{added, taken}
 use Rattle.model.specs.Rectangle.{pixelByte}
 use Rattle.model.specs.Operands.{drawOperands}
-use Rattle.model.specs.BltPixel.{withPattern, operandsAt, drawAt}
+use Rattle.model.specs.Expansion.{sourceBit, inverted, expand}
+use Rattle.model.specs.BltPixel.{sourceValue, withPattern, withSource, operandsAt, drawAt}
 use Rattle.model.specs.declared.Blt.{Blt}
 use Rattle.model.specs.declared.Pattern.the-variants.{Solid}
+use Rattle.model.specs.declared.Source.{Source}
+use Rattle.model.specs.declared.Source.the-variants.{Unselected, Frame, Bits}
+use Rattle.model.specs.declared.SourceValue.the-variants.{Transparent, Value}
 use Rattle.laws.specs.Pixels.{store-low, length-store, depth-least}
 use Rattle.laws.specs.Order.{inOrder, order-through, order-same, order-reverse, Remain, remain-next}
 use Rattle.laws.specs.Extremes.{byte-on}
@@ -110,6 +114,23 @@ module _ (depth value : ℕ) where
 raster-fill : (m code p s d : ℕ) → code ≡ 0xF0 → raster m code p s d ≡ p % 2 ^ m
 raster-fill m code p s d e = rw e (raster-pattern m p s d)
 
+-- a source that gives every pixel a value
+abbrev pub isOpaque : Source → Bool
+isOpaque (Unselected color) = true
+isOpaque (Frame r) = true
+isOpaque (Bits m) = not (m .transparent)
+
+opaque-value : (s : Source) (i j : ℕ) (frame : List ℕ) → isOpaque s ≡ true → (v : ℕ) × (sourceValue s i j frame ≡ Value v)
+unfolding sourceValue expand
+opaque-value (Unselected color) i j frame e = (_, refl)
+opaque-value (Frame r) i j frame e = (_, refl)
+opaque-value (Bits m) i j frame e = go (inverted (m .inversion) (sourceBit m i j frame) =? 1) (m .transparent) e
+  where
+    go : (a b : Bool) → not b ≡ true → (v : ℕ) × ((if a then Value (m .foreground) else if b then Transparent else Value (m .background)) ≡ Value v)
+    go true b e = (_, refl)
+    go false false e = (_, refl)
+    go false true e = absurd (not-both false e refl)
+
 -- of n columns from column i, the one that lies lowest
 abbrev pub lowColumn : Bool → ℕ → ℕ → ℕ
 lowColumn negative i n = if negative then i + (n - 1) else i
@@ -138,11 +159,11 @@ module _ {size : ℕ} {b : Blt} {i j n : ℕ} (r : Row size b i j n) where
       go false e =
           omega (arith, all, on-row i (n - 1) (omega arith) false e, destination-within (row-pixel r {x = i + (n - 1)} (omega arith) refl) .bytes-in)
 
-  module _ {color : ℕ} (solid : b .pattern ≡ Solid color) (fills : b .code ≡ 0xF0) where
+  module _ {color : ℕ} (solid : b .pattern ≡ Solid color) (fills : b .code ≡ 0xF0) (opaque : isOpaque (b .source) ≡ true) where
     fill-drawn : (i at : ℕ) (frame : List ℕ) → pixelByte (b .destination) i j ≡ at → drawAt b i j frame ≡ storePixel (b .destination .depth) frame at color
-    unfolding drawAt operandsAt withPattern drawOperands
+    unfolding drawAt operandsAt withSource withPattern drawOperands
     fill-drawn i at frame e =
-        rw (solid, e)
+        rw (solid, e, opaque-value (b .source) i j frame opaque .1)
         (ap (storePixel (b .destination .depth) frame at) (raster-fill (8 * b .destination .depth) (b .code) color _ _ fills)
         ∙ store-low (b .destination .depth) frame at color)
 

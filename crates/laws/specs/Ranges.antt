@@ -1,6 +1,6 @@
 -- The ranges that the registers' fields give, and what judging accepts, as facts on rectangles, BLTs and vectors.
-use Prim.Native.Nat.{ℕ, _*_, _≤_, _<_}
-use mathlib.Core.Path.{_≡_, refl, subst}
+use Prim.Native.Nat.{ℕ, _+_, _-_, _*_, _≤_, _<_}
+use mathlib.Core.Path.{_≡_, refl}
 use mathlib.Core.Bool.{Bool, true, false, _||_}
 use mathlib.Core.List.{List}
 use native.Mathlib.Omega.{arith}
@@ -10,21 +10,23 @@ use lib.Signed.{ltZ}
 use Rattle.model.specs.Choice.{_=?_, if_then_else_, not-both, neither, nonzero, if-both}
 use Rattle.model.specs.Refusals.{NoRule, positive, none-first}
 use Rattle.model.specs.Limits.{frameMost, sideMost}
-use Rattle.model.specs.Registers.{formatCode, patternMode, sourceOffset, sourceStride, width, height, vectorLength, sourceSelect}
+use Rattle.model.specs.Registers.{formatCode, patternMode, sourceOffset, sourceStride, width, height, vectorLength, sourceMode, sourceSelect}
 use Rattle.model.specs.Formats.{Depth, formatOf, depthOf}
 use Rattle.model.specs.Rectangle.{pixelsOf, rectangleOutside}
-use Rattle.model.specs.BltPixel.{rectangleOf, sourceOf, patternOf, bltOf, sourceOutside}
+use Rattle.model.specs.Expansion.{byteColumn}
+use Rattle.model.specs.BltPixel.{rectangleOf, monoMode, bytesOf, monoSourceOf, sourceOf, patternOf, bltOf, sourceOutside}
 use Rattle.model.specs.VectorPixel.{vectorOf, vectorOutside}
 use Rattle.model.specs.Judging.{judge, judgeRules, refusedFormat, row23, row25, row26}
 use Rattle.model.specs.declared.Blt.{Blt}
 use Rattle.model.specs.declared.Format.the-variants.{Bytes, Refused}
+use Rattle.model.specs.declared.MonoSource.{MonoSource}
 use Rattle.model.specs.declared.Pattern.{Pattern}
 use Rattle.model.specs.declared.Pattern.the-variants.{Solid, Mono}
 use Rattle.model.specs.declared.Primitive.{Primitive}
 use Rattle.model.specs.declared.Primitive.the-variants.{Blt as BltPrimitive, Vector as VectorPrimitive}
 use Rattle.model.specs.declared.Rectangle.{Rectangle}
 use Rattle.model.specs.declared.Source.{Source}
-use Rattle.model.specs.declared.Source.the-variants.{Unselected, Frame}
+use Rattle.model.specs.declared.Source.the-variants.{Unselected, Frame, Bits}
 use Rattle.model.specs.declared.Vector.{Vector}
 use Rattle.laws.specs.Pixels.{depth-most}
 
@@ -52,9 +54,23 @@ pub record Matches (d r : Rectangle) : Type 0 where
   pub columns-same : r .columns ≡ d .columns
   pub rows-same : (r .rows .count ≡ d .rows .count) × (r .rows .negative ≡ d .rows .negative)
 
+-- a mono source that has the bits of a destination's columns and rows
+pub record FitBits (size : ℕ) (d : Rectangle) (m : MonoSource) : Type 0 where
+  pub bytes-fit : InFrame size (m .bytes)
+  pub bytes-are : m .bytes .depth ≡ 1
+  pub bytes-on : m .bytes .columns ≡ record { count = byteColumn (m .skip) (d .columns .count - 1) + 1; step = 1; negative = false }
+  pub rows-are : m .bytes .rows .count ≡ d .rows .count
+
 abbrev pub FitSource : ℕ → Rectangle → Source → Type 0
 FitSource size d (Unselected color) = Unit {0}
 FitSource size d (Frame r) = InFrame size r × Matches d r
+FitSource size d (Bits m) = FitBits size d m
+
+-- the rectangle that a source reads is in range
+abbrev pub RangedSource : Source → Type 0
+RangedSource (Unselected color) = Unit {0}
+RangedSource (Frame r) = Ranged r
+RangedSource (Bits m) = Ranged (m .bytes)
 
 abbrev pub FitPattern : Pattern → Type 0
 FitPattern (Solid color) = Unit {0}
@@ -134,12 +150,26 @@ module _ (registers : List ℕ) (no-23 : row23 registers ≡ false) where
     from-frame : Ranged (rectangleOf registers (sourceOffset registers) (sourceStride registers))
     from-frame = ranged _ _ (mod-lt _ (omega arith)) (mod-lt _ (omega arith))
 
-    pub ranged-source : {r : Rectangle} → bltOf registers .source ≡ Frame r → Ranged r
-    unfolding bltOf sourceOf
-    ranged-source {r} =
-        if-both (λ s. s ≡ Frame r → Ranged r) (sourceSelect registers =? 1)
-        (λ e. let p : rectangleOf registers (sourceOffset registers) (sourceStride registers) ≡ r = cc in subst Ranged p from-frame)
-        (λ e. let z : _≡_ {A = ℕ} 0 1 = cc in absurd (omega arith))
+    from-bits : Ranged (bytesOf registers)
+    unfolding bytesOf
+    from-bits =
+        let n = neither (width registers =? 0) (height registers =? 0) no-25 in
+        record {
+          deep = Depth.one;
+          wide = omega arith;
+          wide-most = omega arith;
+          pixels-on = refl;
+          high = nonzero (height registers) (n .1);
+          high-most = omega arith;
+          stride-most = if-both (λ s. s < 65_536) (sourceMode registers =? 2) (omega arith) (mod-lt _ (omega arith));
+          offset-most = mod-lt _ (omega arith);
+        }
+
+    -- and what a source reads
+    pub ranged-source : RangedSource (bltOf registers .source)
+    unfolding bltOf sourceOf monoSourceOf
+    ranged-source =
+        if-both RangedSource (sourceSelect registers =? 1) (if-both RangedSource (monoMode registers) from-bits from-frame) tt
 
   -- and once 26 does not apply either, a vector is
   pub ranged-vector : row25 registers VectorPrimitive ≡ false → row26 registers VectorPrimitive ≡ false → RangedVector (vectorOf registers)
@@ -163,20 +193,26 @@ unfolding judge positive
 judged primitive registers size = none-first (judgeRules primitive registers size) refl
 
 module _ (registers : List ℕ) (size : ℕ) where
+  -- a source that lies in frame memory, once it is in range
+  source-shape : RangedSource (bltOf registers .source) → sourceOutside size (bltOf registers .source) ≡ false
+      → FitSource size (bltOf registers .destination) (bltOf registers .source)
+  unfolding bltOf sourceOf monoSourceOf bytesOf rectangleOf
+  source-shape =
+      let fits : Source → Type 0 = λ s. RangedSource s → sourceOutside size s ≡ false → FitSource size (bltOf registers .destination) s in
+      if-both fits (sourceSelect registers =? 1)
+      (if-both fits (monoMode registers)
+      (λ r i. record { bytes-fit = record { ranged = r; inside = i }; bytes-are = refl; bytes-on = refl; rows-are = refl })
+      (λ r i. (record { ranged = r; inside = i }, record { depth-same = refl; columns-same = refl; rows-same = (refl, refl) })))
+      (λ r i. tt)
+
   pub fit-blt : judge BltPrimitive registers size ≡ 0 → FitBlt size (bltOf registers)
-  unfolding bltOf sourceOf patternOf rectangleOf
+  unfolding bltOf patternOf
   fit-blt e =
       let rules = judged BltPrimitive registers size e in
       let later = rules .1 .1 in
       record {
         destination-fit = record { ranged = ranged-destination registers (rules .0) (later .0); inside = later .1 .1 .0 };
-        source-fit =
-            if-both (λ s. sourceOutside size s ≡ false → FitSource size (bltOf registers .destination) s) (sourceSelect registers =? 1)
-            (λ i. (
-              record { ranged = from-frame registers (rules .0) (later .0); inside = i },
-              record { depth-same = refl; columns-same = refl; rows-same = (refl, refl) },
-            ))
-            (λ i. tt) (later .1 .1 .1 .0);
+        source-fit = source-shape (ranged-source registers (rules .0) (later .0)) (later .1 .1 .1 .0);
         pattern-fit = if-both FitPattern (patternMode registers =? 1) (omega arith, omega arith) tt;
       }
 

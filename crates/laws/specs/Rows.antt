@@ -1,6 +1,6 @@
 -- Pixels of one row of a BLT: where they lie, what one of them draws, and a row as a part of the whole.
-use Prim.Native.Nat.{ℕ, _+_, _-_, _*_, _≤_, _<_}
-use mathlib.Core.Path.{_≡_, refl}
+use Prim.Native.Nat.{ℕ, _+_, _-_, _*_, _^_, _≤_, _<_}
+use mathlib.Core.Path.{_≡_, refl, sym, ap, _∙_}
 use mathlib.Core.List.{List}
 use native.Mathlib.Omega.{arith}
 use native.Mathlib.Nat.{mod-lt}
@@ -8,22 +8,28 @@ use lib.ListN.{length}
 use Rattle.model.specs.Limits.{frameMost}
 use Rattle.model.specs.Formats.{Depth}
 use Rattle.model.specs.Pixel.{readPixel, storePixel}
-use Rattle.model.specs.Raster.{raster}
+use Rattle.model.specs.Raster.{raster, raster-source}
 use Rattle.model.specs.Rectangle.{ahead, behind, pixelByte, columnOf, rowOf, pixelsOf}
 use Rattle.model.specs.Operands.{drawOperands}
-use Rattle.model.specs.BltPixel.{sourceValue, withPattern, operandsAt, drawAt, drawBlt}
+use Rattle.model.specs.Bits.{bit}
+use Rattle.model.specs.Expansion.{byteColumn, bitNumber, sourceBit, expand}
+use Rattle.model.specs.BltPixel.{sourceValue, withPattern, withSource, operandsAt, drawAt, drawBlt}
+use Rattle.model.specs.declared.Axis.{Axis}
 use Rattle.model.specs.declared.Blt.{Blt}
+use Rattle.model.specs.declared.MonoSource.{MonoSource}
 use Rattle.model.specs.declared.Operands.{Operands}
 use Rattle.model.specs.declared.Operands.the-variants.{Nothing, Values}
 use Rattle.model.specs.declared.Pattern.the-variants.{Solid}
 use Rattle.model.specs.declared.Rectangle.{Rectangle}
 use Rattle.model.specs.declared.Source.{Source}
-use Rattle.model.specs.declared.Source.the-variants.{Unselected, Frame}
-use Rattle.laws.specs.Pixels.{length-store}
+use Rattle.model.specs.declared.Source.the-variants.{Unselected, Frame, Bits}
+use Rattle.model.specs.declared.SourceValue.{SourceValue}
+use Rattle.model.specs.declared.SourceValue.the-variants.{Transparent, Value}
+use Rattle.laws.specs.Pixels.{store-low, length-store}
 use Rattle.laws.specs.Order.{inOrder, bltPixels, order-same}
-use Rattle.laws.specs.Ranges.{Matches, FitSource, FitBlt}
+use Rattle.laws.specs.Ranges.{Matches, FitBits, FitSource, FitBlt}
 use Rattle.laws.specs.Numbers.{row-lt, column-add, row-add}
-use Rattle.laws.specs.Extremes.{Reached, Within, within, Along, along, along-at}
+use Rattle.laws.specs.Extremes.{Reached, Within, within, byte-on, Along, along, along-at}
 
 -- ---- where pixels lie
 
@@ -33,9 +39,43 @@ pub record PixelOf (size : ℕ) (b : Blt) (i j : ℕ) : Type 0 where
   pub column : i < b .destination .columns .count
   pub row : j < b .destination .rows .count
 
+-- the bit of column i of a mono source's row j is in frame memory, so many bytes after the row's first
+pub record BitWithin (size : ℕ) (m : MonoSource) (i j : ℕ) : Type 0 where
+  pub begins : Reached (m .bytes) 0 j
+  pub bit-on : pixelByte (m .bytes) (byteColumn (m .skip) i) j ≡ pixelByte (m .bytes) 0 j + byteColumn (m .skip) i
+  pub bit-in : pixelByte (m .bytes) 0 j + byteColumn (m .skip) i < size
+  pub bit-near : m .skip + i < 2 ^ 32
+
 abbrev pub SourceWithin : ℕ → Source → (i j : ℕ) → Type 0
 SourceWithin size (Unselected color) i j = Unit {0}
 SourceWithin size (Frame r) i j = Within size r i j
+SourceWithin size (Bits m) i j = BitWithin size m i j
+
+-- the bit of column i in a row of bits whose bytes begin at `from`
+abbrev pub bitAt : (skip from i : ℕ) → List ℕ → ℕ
+bitAt skip from i frame = bit (readPixel 1 frame (from + byteColumn skip i)) (bitNumber skip i)
+
+pub bit-at : {size : ℕ} {m : MonoSource} {i j from : ℕ} → BitWithin size m i j → from ≡ pixelByte (m .bytes) 0 j
+    → (frame : List ℕ) → bitAt (m .skip) from i frame ≡ sourceBit m i j frame
+unfolding sourceBit
+bit-at w e frame = rw (e, w .bit-on)
+
+bit-within : {size : ℕ} {d : Rectangle} {m : MonoSource} → FitBits size d m → {i j : ℕ} → i < d .columns .count → j < d .rows .count
+    → BitWithin size m i j
+bit-within {d = d} {m} f {i} {j} p q =
+    let wide = ap (λ (a : Axis). a .count) (f .bytes-on) in
+    let row : j < m .bytes .rows .count = omega (arith, f .rows-are) in
+    let low : byteColumn (m .skip) i < m .bytes .columns .count = omega arith in
+    let first = within (f .bytes-fit) {i = 0} {j = j} (omega arith) row in
+    let here = within (f .bytes-fit) {i = byteColumn (m .skip) i} {j = j} low row in
+    let z : 0 + byteColumn (m .skip) i ≡ byteColumn (m .skip) i = omega arith in
+    let on = rw z at (byte-on (f .bytes-on) (byteColumn (m .skip) i) (first .reached) (rw z (here .reached))) in
+    record {
+      begins = first .reached;
+      bit-on = omega (arith, on);
+      bit-in = omega (arith, on, here .bytes-in, f .bytes-are);
+      bit-near = omega (arith, f .bytes-fit .ranged .wide-most);
+    }
 
 module _ {size : ℕ} {b : Blt} {i j : ℕ} (p : PixelOf size b i j) where
   pub destination-within : Within size (b .destination) i j
@@ -47,6 +87,7 @@ module _ {size : ℕ} {b : Blt} {i j : ℕ} (p : PixelOf size b i j) where
       go : (s : Source) → FitSource size (b .destination) s → SourceWithin size s i j
       go (Unselected color) f = tt
       go (Frame r) f = within (f .0) (rw (f .1 .columns-same) (p .column)) (rw (f .1 .rows-same .0) (p .row))
+      go (Bits m) f = bit-within f (p .column) (p .row)
 
 -- ---- what a pixel draws
 
@@ -63,6 +104,28 @@ pub length-drawn : (b : Blt) (k : ℕ) (frame : List ℕ) → length (drawBlt b 
 unfolding drawBlt
 length-drawn b k frame = length-at b _ _ frame
 
+-- what a solid pattern's colour and a source give
+abbrev pub solidOperands : ℕ → SourceValue → Operands
+solidOperands color Transparent = Nothing
+solidOperands color (Value v) = Values color v
+
+solid-operands : (color : ℕ) (r : Rectangle) (i j : ℕ) (v : SourceValue) → solidOperands color v ≡ withSource (Solid color) r i j v
+unfolding withSource withPattern
+solid-operands color r i j Transparent = refl
+solid-operands color r i j (Value v) = refl
+
+-- what a source gives, stored as it is: code CCh gives the source
+abbrev pub storedValue : (depth at : ℕ) → SourceValue → List ℕ → List ℕ
+storedValue depth at Transparent frame = frame
+storedValue depth at (Value v) frame = storePixel depth frame at v
+
+value-stored : (depth at color : ℕ) (v : SourceValue) (frame : List ℕ)
+    → storedValue depth at v frame ≡ drawOperands depth 0xCC at (solidOperands color v) frame
+unfolding drawOperands
+value-stored depth at color Transparent frame = refl
+value-stored depth at color (Value v) frame =
+    sym (ap (storePixel depth frame at) (raster-source (8 * depth) color v _) ∙ store-low depth frame at v)
+
 -- the pixel at column i of row j, drawn with its operands at its first byte
 module _ (b : Blt) (i j : ℕ) (frame : List ℕ) {code at : ℕ} (c : code ≡ b .code) (a : at ≡ pixelByte (b .destination) i j) where
   pub operands-drawn : {o : Operands} → o ≡ operandsAt b i j frame
@@ -70,13 +133,26 @@ module _ (b : Blt) (i j : ℕ) (frame : List ℕ) {code at : ℕ} (c : code ≡ 
   unfolding drawAt
   operands-drawn e = rw (c, a, e)
 
-  -- of a solid pattern, its colour and the source value
-  pub solid-drawn : {color p v : ℕ} → b .pattern ≡ Solid color → p ≡ color → v ≡ sourceValue (b .source) i j frame
+  -- of a solid pattern, its colour and what the source gives
+  pub solid-drawn : {color p : ℕ} {v : SourceValue} → b .pattern ≡ Solid color → p ≡ color → v ≡ sourceValue (b .source) i j frame
+      → drawOperands (b .destination .depth) code at (solidOperands p v) frame ≡ drawAt b i j frame
+  unfolding operandsAt
+  solid-drawn {p = p} {v} solid e s = operands-drawn (solid-operands p (b .destination) i j v ∙ rw (solid, e, s))
+
+  pub copy-drawn : {color : ℕ} {v : SourceValue} → b .pattern ≡ Solid color → b .code ≡ 0xCC → v ≡ sourceValue (b .source) i j frame
+      → storedValue (b .destination .depth) at v frame ≡ drawAt b i j frame
+  copy-drawn {color} {v} solid copies s =
+      let e : 0xCC ≡ code = sym (c ∙ copies) in
+      value-stored (b .destination .depth) at color v frame
+      ∙ ap (λ (x : ℕ). drawOperands (b .destination .depth) x at (solidOperands color v) frame) e
+      ∙ solid-drawn {p = color} {v = v} solid refl s
+
+  pub value-drawn : {color p v : ℕ} → b .pattern ≡ Solid color → p ≡ color → Value v ≡ sourceValue (b .source) i j frame
       → storePixel (b .destination .depth) frame at
       (raster (8 * b .destination .depth) code p v (readPixel (b .destination .depth) frame at))
       ≡ drawAt b i j frame
-  unfolding operandsAt withPattern drawOperands
-  solid-drawn {color} {p} {v} solid e s = operands-drawn {o = Values p v} (rw (solid, e, s))
+  unfolding drawOperands
+  value-drawn {p = p} {v} solid e s = solid-drawn {p = p} {v = Value v} solid e s
 
 -- ---- rows
 
@@ -150,9 +226,19 @@ module _ {size : ℕ} {b : Blt} {i j n : ℕ} (r : Row size b i j n) where
       source-along = along (r .small) (same .columns-same) m (rw f at (source-within first)) (rw f at (source-within here)) g
 
       pub source-read : {at : ℕ} → at ≡ from + ahead (b .destination .columns) m - behind (b .destination .columns) m
-          → (at + b .destination .depth ≤ now) × ((frame : List ℕ) → readPixel (b .destination .depth) frame at ≡ sourceValue (b .source) (i + m) j frame)
+          → (at + b .destination .depth ≤ now) × ((frame : List ℕ) → Value (readPixel (b .destination .depth) frame at) ≡ sourceValue (b .source) (i + m) j frame)
       unfolding sourceValue
       source-read a =
           let w = rw f at (source-within here) in
           let p = along-at (r .small) (same .columns-same) m (rw f at (source-within first)) w g a in
           (omega (arith, w .bytes-in, same .depth-same), λ frame. rw (f, p, same .depth-same))
+
+    -- or its bit, in a row of bits whose bytes begin at `from`
+    module _ {s : MonoSource} (f : b .source ≡ Bits s) where
+      pub bits-within : BitWithin now s (i + m) j
+      bits-within = rw f at (source-within (row-pixel {x = i + m} (omega arith) e))
+
+      pub bits-read : {from : ℕ} → from ≡ pixelByte (s .bytes) 0 j → (frame : List ℕ)
+          → expand s (bitAt (s .skip) from (i + m) frame) ≡ sourceValue (b .source) (i + m) j frame
+      unfolding sourceValue
+      bits-read g frame = rw f (ap (expand s) (bit-at bits-within g frame))

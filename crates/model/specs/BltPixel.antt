@@ -1,23 +1,27 @@
--- "A BLT pixel" (document 01): the pixels of a BLT, in the order in which they are drawn.
-use Prim.Native.Nat.{ℕ, _*_}
-use mathlib.Core.Bool.{Bool, false}
+-- "A BLT pixel" (document 01), with mono sources (W1 of document 02): the pixels of a BLT, in the order in which they are drawn.
+use Prim.Native.Nat.{ℕ, _+_, _-_, _/_}
+use mathlib.Core.Bool.{Bool, false, _||_}
 use mathlib.Core.List.{List}
 use Rattle.model.specs.Choice.{_=?_, if_then_else_}
-use Rattle.model.specs.Registers.{word, SRC-COLOR-FG, PAT-COLOR-0, PAT-COLOR-1, PAT-DATA-0, PAT-DATA-1, formatCode, patternTransparency, patternMode, rasterCode, patternRow, patternColumn, destinationOffset, sourceOffset, sourceStride, destinationStride, width, height, xNegative, yNegative, sourceSelect}
+use Rattle.model.specs.Registers.{word, SRC-COLOR-FG, SRC-COLOR-BG, PAT-COLOR-0, PAT-COLOR-1, PAT-DATA-0, PAT-DATA-1, formatCode, sourceInversion, sourceTransparency, patternTransparency, patternMode, rasterCode, patternRow, patternColumn, destinationOffset, sourceSkip, sourceOffset, sourceStride, destinationStride, width, height, xNegative, yNegative, sourceMode, sourceSelect}
 use Rattle.model.specs.Formats.{formatOf, depthOf}
 use Rattle.model.specs.Rectangle.{pixelByte, columnOf, rowOf, rectangleOutside}
 use Rattle.model.specs.Pixel.{readPixel}
 use Rattle.model.specs.Pattern.{patternBit, patternIndex}
+use Rattle.model.specs.Expansion.{byteColumn, sourceBit, expand}
 use Rattle.model.specs.Operands.{drawOperands}
 use Rattle.model.specs.declared.Blt.{Blt}
 use Rattle.model.specs.declared.MonoPattern.{MonoPattern}
+use Rattle.model.specs.declared.MonoSource.{MonoSource}
 use Rattle.model.specs.declared.Operands.{Operands}
 use Rattle.model.specs.declared.Operands.the-variants.{Nothing, Values}
 use Rattle.model.specs.declared.Pattern.{Pattern}
 use Rattle.model.specs.declared.Pattern.the-variants.{Solid, Mono}
 use Rattle.model.specs.declared.Rectangle.{Rectangle}
 use Rattle.model.specs.declared.Source.{Source}
-use Rattle.model.specs.declared.Source.the-variants.{Unselected, Frame}
+use Rattle.model.specs.declared.Source.the-variants.{Unselected, Frame, Bits}
+use Rattle.model.specs.declared.SourceValue.{SourceValue}
+use Rattle.model.specs.declared.SourceValue.the-variants.{Transparent, Value}
 
 -- ---- the BLT that the registers describe
 
@@ -35,10 +39,41 @@ module _ (registers : List ℕ) where
     rows = record { count = height registers; step = stride; negative = yNegative registers };
   }
 
+  -- SM 01 is unpacked mono, 10 byte-packed mono, the rest colour
+  abbrev pub monoMode : Bool
+  monoMode = sourceMode registers =? 0b01 || sourceMode registers =? 0b10
+
+  -- the bytes from one row of bits to the next. Unpacked rows lie a source stride apart. Byte-packed ones follow one another:
+  -- "after WIDTH pixels .., skips the remaining bits in the byte plus the number specified in XLSBs, and begins the next line at
+  -- that location" (000, 6.3.8.2), so a row takes (XLSBS + width) / 8 bytes, rounded up
+  abbrev pub rowStride : ℕ
+  rowStride = if sourceMode registers =? 0b10 then (sourceSkip registers + width registers + 7) / 8 else sourceStride registers
+
+  -- the bytes that hold the bits of a mono source: of each row those from the first column's to the last column's. Rows go
+  -- further, or back if Y is negative
+  unfoldable pub bytesOf : Rectangle
+  bytesOf = record {
+    offset = sourceOffset registers;
+    depth = 1;
+    columns = record { count = byteColumn (sourceSkip registers) (width registers - 1) + 1; step = 1; negative = false };
+    rows = record { count = height registers; step = rowStride; negative = yNegative registers };
+  }
+
+  unfoldable pub monoSourceOf : MonoSource
+  monoSourceOf = record {
+    bytes = bytesOf;
+    skip = sourceSkip registers;
+    foreground = word registers SRC-COLOR-FG;
+    background = word registers SRC-COLOR-BG;
+    inversion = sourceInversion registers;
+    transparent = sourceTransparency registers;
+  }
+
   -- "With no source selected the source value is SRC_COLOR_FG."
   unfoldable pub sourceOf : Source
   sourceOf =
-      if sourceSelect registers =? 0b01 then Frame (rectangleOf (sourceOffset registers) (sourceStride registers))
+      if sourceSelect registers =? 0b01
+      then (if monoMode then Bits monoSourceOf else Frame (rectangleOf (sourceOffset registers) (sourceStride registers)))
       else Unselected (word registers SRC-COLOR-FG)
 
   -- "Solid pattern is PAT_COLOR_0."
@@ -67,9 +102,10 @@ module _ (registers : List ℕ) where
 -- ---- what the pixel at column i of row j gets
 
 -- the source value
-unfoldable pub sourceValue : Source → (i j : ℕ) → List ℕ → ℕ
-sourceValue (Unselected color) i j frame = color
-sourceValue (Frame r) i j frame = readPixel (r .depth) frame (pixelByte r i j)
+unfoldable pub sourceValue : Source → (i j : ℕ) → List ℕ → SourceValue
+sourceValue (Unselected color) i j frame = Value color
+sourceValue (Frame r) i j frame = Value (readPixel (r .depth) frame (pixelByte r i j))
+sourceValue (Bits m) i j frame = expand m (sourceBit m i j frame)
 
 -- the mono pattern's bit: "row and column are the offset register's Y and X low bits plus the signed steps from the first
 -- pixel"
@@ -88,8 +124,13 @@ withPattern (Mono p) r i j source =
     else if p .transparent then Nothing
     else Values (p .color0) source
 
+-- a pixel that is transparent by its source writes nothing, whatever its pattern and the raster code
+unfoldable pub withSource : Pattern → Rectangle → (i j : ℕ) → SourceValue → Operands
+withSource p r i j Transparent = Nothing
+withSource p r i j (Value source) = withPattern p r i j source
+
 unfoldable pub operandsAt : Blt → (i j : ℕ) → List ℕ → Operands
-operandsAt b i j frame = withPattern (b .pattern) (b .destination) i j (sourceValue (b .source) i j frame)
+operandsAt b i j frame = withSource (b .pattern) (b .destination) i j (sourceValue (b .source) i j frame)
 
 -- ---- drawing
 
@@ -103,7 +144,9 @@ drawBlt b k frame = drawAt b (columnOf (b .destination) k) (rowOf (b .destinatio
 
 -- ---- bounds
 
--- "some byte of some source pixel lies outside", where the "source select is frame memory, whatever the raster code"
+-- "some byte of some source pixel lies outside", where the "source select is frame memory, whatever the raster code"; of a mono
+-- source "28 is judged on the source bytes that hold the needed bits"
 abbrev pub sourceOutside : ℕ → Source → Bool
 sourceOutside framelength (Unselected color) = false
 sourceOutside framelength (Frame r) = rectangleOutside framelength r
+sourceOutside framelength (Bits m) = rectangleOutside framelength (m .bytes)

@@ -1,14 +1,14 @@
 -- The marked shop cases of document 01, shown from the definitions in one table, with further cases that pin the definitions
 -- where the marked ones leave room, and with the words of a released display driver.
-use Prim.Native.Nat.{ℕ, _+_, _-_, _/_, _%_, _^_}
+use Prim.Native.Nat.{ℕ, _+_, _-_, _*_, _/_, _%_, _^_}
 use mathlib.Core.Path.{_≡_, refl}
 use mathlib.Core.Bool.{Bool, true, false}
 use mathlib.Core.List.{List, [], _∷_, _++_, map}
-use lib.ListN.{length, replicate, set}
+use lib.ListN.{length, replicate, set, drop}
 use Rattle.model.specs.Choice.{_≤?_}
 use Rattle.model.specs.Refusals.{first, any}
 use Rattle.model.specs.Limits.{ringLeast, ringMost, frameMost}
-use Rattle.model.specs.Registers.{registerCount, RASTER-MODE, DST-OFFSET, SRC-OFFSET, STRIDE, WID-HEIGHT, SRC-COLOR-FG, PAT-COLOR-0, PAT-COLOR-1, PAT-DATA-0, PAT-DATA-1, CH3-MODE-STR, CH3-WIDHI, BASE-OFFSET, BLT-MODE, VECTOR-MODE, VEC-ERR, VEC-LEN}
+use Rattle.model.specs.Registers.{registerCount, RASTER-MODE, DST-OFFSET, SRC-OFFSET, STRIDE, WID-HEIGHT, SRC-COLOR-FG, SRC-COLOR-BG, PAT-COLOR-0, PAT-COLOR-1, PAT-DATA-0, PAT-DATA-1, CH3-MODE-STR, CH3-WIDHI, BASE-OFFSET, BLT-MODE, VECTOR-MODE, VEC-ERR, VEC-LEN}
 use Rattle.model.specs.Formats.{formatOf}
 use Rattle.model.specs.Bounds.{byteOutside, some, outside, least, greatest, extent}
 use Rattle.model.specs.Rectangle.{pixelByte, rectangleExtent}
@@ -16,8 +16,9 @@ use Rattle.model.specs.Pixel.{readPixel, storePixel}
 use Rattle.model.specs.Ring.{distance, waiting, room, positionRules, wordAt}
 use Rattle.model.specs.Raster.{raster, raster-source, raster-pattern, raster-destination, raster-pattern-xor, raster-source-xor}
 use Rattle.model.specs.Pattern.{patternByte, patternBit, patternIndex}
+use Rattle.model.specs.Expansion.{sourceBit, expand}
 use Rattle.model.specs.Operands.{drawOperands}
-use Rattle.model.specs.BltPixel.{rectangleOf, sourceOf, patternOf, bltOf, sourceValue, monoBit, withPattern, operandsAt, drawAt, drawBlt}
+use Rattle.model.specs.BltPixel.{rectangleOf, bytesOf, monoSourceOf, sourceOf, patternOf, bltOf, sourceValue, monoBit, withPattern, withSource, operandsAt, drawAt, drawBlt}
 use Rattle.model.specs.VectorPixel.{signed16, vectorOf, axialStep, diagonalStep, step, position, vectorExtent, vectorByte, drawVector}
 use Rattle.model.specs.Command.{returns, kindOf, badHeader, commandLength, drawnBy, badReturn, headerRules, wholeWords, readAfter, loadWords, loaded}
 use Rattle.model.specs.Judging.{judge}
@@ -185,9 +186,10 @@ pub record Extremes : Type 0 where
 pub record Judged : Type 0 where
   -- 23: codes 0001 and 0111, alpha
   pub formats-refused : rowWith RASTER-MODE (0x100000F0 ∷ 0x700000F0 ∷ 0x004000F0 ∷ 0x008000F0 ∷ []) ≡ replicate 4 23
-  -- 24: each bit and mode of RASTER_MODE, each mode of BLT_MODE, channel 3, BASE_OFFSET; 25; and bits that refuse nothing
+  -- 24: each bit and mode of RASTER_MODE, SM 11 and each select of BLT_MODE, channel 3, BASE_OFFSET; 25; and bits that refuse
+  -- nothing
   pub modes-refused : rowWith RASTER-MODE (0x20F0 ∷ 0x10F0 ∷ 0x08F0 ∷ 0x02F0 ∷ 0x03F0 ∷ []) ≡ replicate 5 24
-  pub sources-refused : rowWith BLT-MODE (0x40 ∷ 0x80 ∷ 0xC0 ∷ 0x02 ∷ 0x03 ∷ []) ≡ replicate 5 24
+  pub sources-refused : rowWith BLT-MODE (0x40 ∷ 0x80 ∷ 0xC0 ∷ 0x02 ∷ 0x03 ∷ []) ≡ 0 ∷ 0 ∷ 24 ∷ 24 ∷ 24 ∷ []
   pub channel-3-refused : rowWith CH3-MODE-STR (0x80000000 ∷ 0x7FFFFFFF ∷ []) ≡ 24 ∷ 0 ∷ []
   pub base-refused : rowWith BASE-OFFSET (0x00000001 ∷ 0x80000000 ∷ []) ≡ 24 ∷ 24 ∷ []
   pub sizes-refused : rowWith WID-HEIGHT (0xF000F001 ∷ 0xF004F000 ∷ 0xF004F001 ∷ []) ≡ 25 ∷ 25 ∷ 0 ∷ []
@@ -299,6 +301,100 @@ pub record Pixels : Type 0 where
   pub pattern-right-up : patterned 3 0x100 ≡ 1 ∷ 1 ∷ 0 ∷ 1 ∷ 0 ∷ 0 ∷ []
   pub pattern-left-up : patterned 5 0x300 ≡ 1 ∷ 0 ∷ 1 ∷ 0 ∷ 1 ∷ 1 ∷ []
 
+-- pixels of one byte, 3 for a set bit and 2 for a clear one, expanded into rows of 9 bytes from byte 8 on. The bits begin at byte
+-- 0, XLSBS `skip`, source stride 4; BLT_MODE 41h is unpacked, 81h byte-packed mono from frame memory
+abbrev pub text : (raster mode skip size : ℕ) → List ℕ
+text raster mode skip size =
+    zeros but RASTER-MODE is raster but DST-OFFSET is 8 but SRC-OFFSET is skip * 2 ^ 26 but STRIDE is 0x00040009 but WID-HEIGHT is size
+    but SRC-COLOR-FG is 3 but SRC-COLOR-BG is 2 but BLT-MODE is mode
+
+-- 8 by 2 of them with XLSBS 2, from the layout of 000's Table 6-23 or 6-24: rows A5h and 0Fh, other bits in between
+abbrev pub table23 : ℕ → List ℕ
+table23 raster = drop 8 (drawn (text raster 0x81 2 0x00080002) (0xE9 ∷ 0x7F ∷ 0xC3 ∷ 0xC0 ∷ replicate 21 9))
+
+abbrev pub table24 : ℕ → List ℕ
+table24 raster = drop 8 (drawn (text raster 0x41 2 0x00080002) (0xE9 ∷ 0x7F ∷ 0x3C ∷ 0x3F ∷ 0xC3 ∷ 0xC0 ∷ replicate 19 9))
+
+-- the first two byte-packed rows of so many pixels from bytes A5h 3Ch 96h 0Fh
+abbrev pub packed : (skip width : ℕ) → List ℕ
+packed skip width =
+    drop 8 (drawn (text 0xCC 0x81 skip (width * 2 ^ 16 + 2) but STRIDE is width) (0xA5 ∷ 0x3C ∷ 0x96 ∷ 0x0F ∷ replicate (4 + 2 * width) 9))
+
+-- 9 by 2 pixels with XLSBS 7, two bytes of bits in each row, and the number that judges them in 32 bytes of frame memory
+abbrev pub bitsRow : (offset mode : ℕ) → List ℕ
+bitsRow offset mode = text 0xF0 mode 7 0x00090002 but SRC-OFFSET is 0x1C000000 + offset but DST-OFFSET is 9
+
+abbrev pub bitsAt : (offset mode : ℕ) → ℕ
+bitsAt offset mode = judge Blt (bitsRow offset mode) 32
+
+-- mono sources (W1)
+pub record MonoSources : Type 0 where
+  -- 000, Table 6-23 and, with a source stride of 4, Table 6-24: both colours; inverted; transparent; transparent after inversion
+  pub table-6-23 :
+      map table23 (0xCC ∷ 0x20CC ∷ 0x08CC ∷ 0x28CC ∷ [])
+      ≡ (3 ∷ 2 ∷ 3 ∷ 2 ∷ 2 ∷ 3 ∷ 2 ∷ 3 ∷ 9 ∷ 2 ∷ 2 ∷ 2 ∷ 2 ∷ 3 ∷ 3 ∷ 3 ∷ 3 ∷ [])
+      ∷ (2 ∷ 3 ∷ 2 ∷ 3 ∷ 3 ∷ 2 ∷ 3 ∷ 2 ∷ 9 ∷ 3 ∷ 3 ∷ 3 ∷ 3 ∷ 2 ∷ 2 ∷ 2 ∷ 2 ∷ [])
+      ∷ (3 ∷ 9 ∷ 3 ∷ 9 ∷ 9 ∷ 3 ∷ 9 ∷ 3 ∷ 9 ∷ 9 ∷ 9 ∷ 9 ∷ 9 ∷ 3 ∷ 3 ∷ 3 ∷ 3 ∷ [])
+      ∷ (9 ∷ 3 ∷ 9 ∷ 3 ∷ 3 ∷ 9 ∷ 3 ∷ 9 ∷ 9 ∷ 3 ∷ 3 ∷ 3 ∷ 3 ∷ 9 ∷ 9 ∷ 9 ∷ 9 ∷ [])
+      ∷ []
+  pub table-6-24 : map table24 (0xCC ∷ 0x20CC ∷ 0x08CC ∷ 0x28CC ∷ []) ≡ map table23 (0xCC ∷ 0x20CC ∷ 0x08CC ∷ 0x28CC ∷ [])
+  -- widths 1, 7, 8 and 9 at XLSBS 0 and 7
+  pub widths-from-0 :
+      map (packed 0) (1 ∷ 7 ∷ 8 ∷ 9 ∷ [])
+      ≡ (3 ∷ 2 ∷ [])
+      ∷ (3 ∷ 2 ∷ 3 ∷ 2 ∷ 2 ∷ 3 ∷ 2 ∷ 2 ∷ 2 ∷ 3 ∷ 3 ∷ 3 ∷ 3 ∷ 2 ∷ [])
+      ∷ (3 ∷ 2 ∷ 3 ∷ 2 ∷ 2 ∷ 3 ∷ 2 ∷ 3 ∷ 2 ∷ 2 ∷ 3 ∷ 3 ∷ 3 ∷ 3 ∷ 2 ∷ 2 ∷ [])
+      ∷ (3 ∷ 2 ∷ 3 ∷ 2 ∷ 2 ∷ 3 ∷ 2 ∷ 3 ∷ 2 ∷ 3 ∷ 2 ∷ 2 ∷ 3 ∷ 2 ∷ 3 ∷ 3 ∷ 2 ∷ 2 ∷ [])
+      ∷ []
+  pub widths-from-7 :
+      map (packed 7) (1 ∷ 7 ∷ 8 ∷ 9 ∷ [])
+      ≡ (3 ∷ 2 ∷ [])
+      ∷ (3 ∷ 2 ∷ 2 ∷ 3 ∷ 3 ∷ 3 ∷ 3 ∷ 2 ∷ 2 ∷ 2 ∷ 2 ∷ 2 ∷ 3 ∷ 3 ∷ [])
+      ∷ (3 ∷ 2 ∷ 2 ∷ 3 ∷ 3 ∷ 3 ∷ 3 ∷ 2 ∷ 2 ∷ 2 ∷ 2 ∷ 2 ∷ 2 ∷ 3 ∷ 3 ∷ 3 ∷ [])
+      ∷ (3 ∷ 2 ∷ 2 ∷ 3 ∷ 3 ∷ 3 ∷ 3 ∷ 2 ∷ 2 ∷ 2 ∷ 2 ∷ 2 ∷ 2 ∷ 2 ∷ 3 ∷ 3 ∷ 3 ∷ 3 ∷ [])
+      ∷ []
+  -- unpacked rows go back where Y is negative, and are one row where the source stride is 0
+  pub rows-back :
+      drop 8 (drawn (text 0xCC 0x141 0 0x00030002 but SRC-OFFSET is 4 but DST-OFFSET is 11 but STRIDE is 0x00040003) (0x60 ∷ 9 ∷ 9 ∷ 9 ∷ 0xA0 ∷ replicate 9 9))
+      ≡ 2 ∷ 3 ∷ 3 ∷ 3 ∷ 2 ∷ 3 ∷ []
+  pub stride-0 :
+      drop 8 (drawn (text 0xCC 0x41 0 0x00030002 but STRIDE is 3) (0xA0 ∷ replicate 13 9)) ≡ 3 ∷ 2 ∷ 3 ∷ 3 ∷ 2 ∷ 3 ∷ []
+  -- two bytes a pixel; the raster operation is that of any source: code 66h, S xor D
+  pub wide-pixels :
+      drop 8 (drawn (text 0x60000066 0x41 5 0x00030001 but SRC-COLOR-FG is 0x9900FF01 but SRC-COLOR-BG is 0x0110) (0x05 ∷ replicate 13 1))
+      ≡ 0 ∷ 0xFE ∷ 0x11 ∷ 0 ∷ 0 ∷ 0xFE ∷ []
+  -- a clear bit writes nothing, whatever the raster code, and costs its unit
+  pub by-pattern :
+      map (λ raster. drop 8 (drawn (text raster 0x41 0 0x00040001 but PAT-COLOR-0 is 5) (0xA0 ∷ replicate 11 9))) (0x08F0 ∷ 0x085A ∷ [])
+      ≡ (5 ∷ 9 ∷ 5 ∷ 9 ∷ []) ∷ (12 ∷ 9 ∷ 12 ∷ 9 ∷ []) ∷ []
+  pub transparent-units :
+      let s = engine (text 0x08CC 0x41 0 0x00040001) 12 0 0 (Drawing Blt 0) in
+      run (ringOf []) s (replicate 12 0) 99 ≡ answer (engineAt (s .core .registers) 12 0 0 1 0 Idle) (Ran Waiting 4 (size - 1))
+  -- a pixel that is transparent by its pattern, row 90h, or by its source, A0h: the first is neither
+  pub by-both :
+      drop 8 (drawn (text 0x0DCC 0x41 0 0x00040001 but PAT-DATA-0 is 0x90) (0xA0 ∷ replicate 11 9)) ≡ 3 ∷ 9 ∷ 9 ∷ 9 ∷ []
+  -- bits are read as memory then stands: the first pixel is written over them
+  pub overwritten :
+      drawn (text 0xCC 0x41 0 0x00080001 but DST-OFFSET is 0 but SRC-COLOR-FG is 0x0F) (0xF0 ∷ replicate 7 9)
+      ≡ 0x0F ∷ 2 ∷ 2 ∷ 2 ∷ 0x0F ∷ 0x0F ∷ 0x0F ∷ 0x0F ∷ []
+  -- "with no source selected inversion and transparency do nothing"
+  pub unselected : drawn (copy 0 0 0x040 but RASTER-MODE is 0x28CC but SRC-COLOR-FG is 7) (replicate 5 1) ≡ 7 ∷ 7 ∷ 7 ∷ 7 ∷ 1 ∷ []
+  -- 24: mono with X negative, byte-packed with Y negative, both only from frame memory; the source bits with colour, selected or
+  -- not; pattern inversion always
+  pub directions :
+      map (λ mode. judge Blt (copy 8 8 mode) 16) (0x041 ∷ 0x081 ∷ 0x141 ∷ 0x241 ∷ 0x281 ∷ 0x181 ∷ 0x240 ∷ 0x380 ∷ [])
+      ≡ 0 ∷ 0 ∷ 0 ∷ 24 ∷ 24 ∷ 24 ∷ 0 ∷ 0 ∷ []
+  pub source-bits :
+      map (λ mode. map (λ raster. judge Blt (copy 0 0 mode but RASTER-MODE is raster) 16) (0x20CC ∷ 0x08CC ∷ 0x10CC ∷ []))
+      (0x000 ∷ 0x001 ∷ 0x040 ∷ 0x041 ∷ 0x081 ∷ [])
+      ≡ replicate 3 24 ∷ replicate 3 24 ∷ (0 ∷ 0 ∷ 24 ∷ []) ∷ (0 ∷ 0 ∷ 24 ∷ []) ∷ (0 ∷ 0 ∷ 24 ∷ []) ∷ []
+  -- 28: the last byte of bits is the last of frame memory, and one beyond, whatever the raster code; bits 25:24 have no effect
+  pub bits-unpacked : map (λ offset. bitsAt offset 0x41) (26 ∷ 27 ∷ 0x300001A ∷ []) ≡ 0 ∷ 28 ∷ 0 ∷ []
+  pub bits-packed : map (λ offset. bitsAt offset 0x81) (28 ∷ 29 ∷ []) ≡ 0 ∷ 28 ∷ []
+  pub bits-back : map (λ offset. bitsAt offset 0x141) (4 ∷ 3 ∷ 30 ∷ 31 ∷ []) ≡ 0 ∷ 28 ∷ 0 ∷ 28 ∷ []
+  -- and so row 3 refuses such a BLT in progress
+  pub bits-in-progress : map (λ offset. unfit (engine (bitsRow offset 0x41) 32 0 0 (Drawing Blt 17))) (26 ∷ 27 ∷ []) ≡ false ∷ true ∷ []
+
 -- a vector by code 3Ch (P xor S), its thirteen words in order: the marked case's terms, length 5, X negative
 abbrev pub vectorRing : List ℕ
 vectorRing = ringOf (0x20001FFF ∷ 0x3C ∷ 5 ∷ 0x0004FFFA ∷ 6 ∷ 0x0005FFFF ∷ 9 ∷ 10 ∷ 11 ∷ 12 ∷ 13 ∷ 14 ∷ 0 ∷ 4 ∷ [])
@@ -328,6 +424,7 @@ pub record Further : Type 0 where
   pub commands : Commands
   pub calls : Calls
   pub pixels : Pixels
+  pub mono-sources : MonoSources
   pub vectors : Vectors
 
 -- ---- a recording
@@ -365,7 +462,7 @@ pub record Recorded : Type 0 where
 -- ---- all of it
 
 pub cases : Cases × Further × Recorded
-unfolding first any patternBit patternByte patternIndex distance waiting room wordAt readPixel storePixel raster formatOf byteOutside some outside least greatest extent pixelByte rectangleOf sourceOf patternOf bltOf sourceValue monoBit withPattern operandsAt drawOperands drawAt drawBlt signed16 vectorOf axialStep diagonalStep step position vectorByte drawVector kindOf badHeader drawnBy badReturn wholeWords readAfter loadWords loaded judge retired headerRefusal commandRefusal needed ready stopped loadedCore pixelCount drawPixel drawnCore unitAt unit possible units unfit setup publish restart askRoom runWord runRefusal runUnits ranAnswer run runFrame
+unfolding first any patternBit patternByte patternIndex distance waiting room wordAt readPixel storePixel raster formatOf byteOutside some outside least greatest extent pixelByte rectangleOf bytesOf monoSourceOf sourceOf patternOf bltOf sourceBit expand sourceValue monoBit withPattern withSource operandsAt drawOperands drawAt drawBlt signed16 vectorOf axialStep diagonalStep step position vectorByte drawVector kindOf badHeader drawnBy badReturn wholeWords readAfter loadWords loaded judge retired headerRefusal commandRefusal needed ready stopped loadedCore pixelCount drawPixel drawnCore unitAt unit possible units unfit setup publish restart askRoom runWord runRefusal runUnits ranAnswer run runFrame
 cases = (
   record {
     code-5A = λ s. raster-pattern-xor 8 0xFF s 0xF0;
@@ -395,6 +492,7 @@ cases = (
     commands = record { headers-refused = refl; headers-taken = refl; returns-at-end = refl; header-alone = refl; part-waits = refl; only-loads = refl; blt-words = refl; skipped-words = refl; across-loads = refl; refused-loads-nothing = refl };
     calls = record { setup-fresh = refl; setup-refused = refl; setup-rings = refl; setup-frames = refl; publish-again = refl; publish-refused = refl; room-asked = refl; restart-moves = refl; restart-refused = refl; ring-lent = refl; frame-lent = refl; unfit-refused = refl; pointers = refl; stops = refl; stop-drawing = refl; places = refl; judged-place = refl };
     pixels = record { foreground = refl; own-stride = refl; two-bytes = refl; four-bytes = refl; mono-colours = refl; mono-transparent = refl; mono-units = refl; solid-transparent = refl; pattern-right-down = refl; pattern-left-down = refl; pattern-right-up = refl; pattern-left-up = refl };
+    mono-sources = record { table-6-23 = refl; table-6-24 = refl; widths-from-0 = refl; widths-from-7 = refl; rows-back = refl; stride-0 = refl; wide-pixels = refl; by-pattern = refl; transparent-units = refl; by-both = refl; overwritten = refl; unselected = refl; directions = refl; source-bits = refl; bits-unpacked = refl; bits-packed = refl; bits-back = refl; bits-in-progress = refl };
     vectors = record { zero-error = refl; other-axis = refl; vector-words = refl; vector-frame = refl };
   },
   record { shop-setup = refl; shop-publish = refl; shop-run = refl; shop-read = refl; shop-write = refl; shop-retired = refl; shop-frame = refl; shop-budgets = refl; shop-load = refl },

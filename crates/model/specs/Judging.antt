@@ -1,15 +1,15 @@
 -- Refusals 23 to 28: what a command that draws is judged by, on the registers as they would be after loading.
 use Prim.Native.Nat.{ℕ}
-use mathlib.Core.Bool.{Bool, true, false, not, _||_}
+use mathlib.Core.Bool.{Bool, true, false, not, _||_, _&&_}
 use mathlib.Core.List.{List, [], _∷_}
 use lib.IntN.{pos}
 use lib.Signed.{ltZ}
 use Rattle.model.specs.Choice.{_=?_}
 use Rattle.model.specs.Refusals.{Rule, _when_, first}
-use Rattle.model.specs.Registers.{word, BASE-OFFSET, formatCode, alphaEnable, sourceInversion, patternInversion, sourceTransparency, patternMode, channel3Enable, sourceMode, sourceSelect, width, height, vectorLength}
+use Rattle.model.specs.Registers.{word, BASE-OFFSET, formatCode, alphaEnable, sourceInversion, patternInversion, sourceTransparency, patternMode, channel3Enable, xNegative, yNegative, sourceMode, sourceSelect, width, height, vectorLength}
 use Rattle.model.specs.Formats.{formatOf}
 use Rattle.model.specs.Rectangle.{rectangleOutside}
-use Rattle.model.specs.BltPixel.{bltOf, sourceOutside}
+use Rattle.model.specs.BltPixel.{monoMode, bltOf, sourceOutside}
 use Rattle.model.specs.VectorPixel.{vectorOf, vectorOutside}
 use Rattle.model.specs.declared.Format.{Format}
 use Rattle.model.specs.declared.Format.the-variants.{Bytes, Refused}
@@ -25,21 +25,34 @@ module _ (registers : List ℕ) where
   abbrev pub row23 : Bool
   row23 = refusedFormat (formatOf (formatCode registers)) || not (alphaEnable registers =? 0b00)
 
-  -- 24, for both kinds: "source transparency or an inversion bit set, .. channel 3 enabled, or BASE_OFFSET not 0"
+  -- 24, for both kinds: document 02's W1 "keeps pattern inversion", document 01 "channel 3 enabled, or BASE_OFFSET not 0"
   abbrev pub row24Both : Bool
-  row24Both =
-      sourceTransparency registers || sourceInversion registers || patternInversion registers
-      || channel3Enable registers || not (word registers BASE-OFFSET =? 0)
+  row24Both = patternInversion registers || channel3Enable registers || not (word registers BASE-OFFSET =? 0)
+
+  -- W1: "both source bits on vectors and colour modes"
+  abbrev pub sourceBits : Bool
+  sourceBits = sourceTransparency registers || sourceInversion registers
+
+  -- W1: "takes mono from frame memory with X negative, or byte-packed with Y negative"
+  abbrev pub monoBack : Bool
+  monoBack =
+      sourceSelect registers =? 0b01
+      && (monoMode registers && xNegative registers || sourceMode registers =? 0b10 && yNegative registers)
+
+  -- 24, of a BLT's source
+  abbrev pub row24Source : Bool
+  row24Source = monoBack || sourceMode registers =? 0b00 && sourceBits
 
   -- 24: "a source or pattern mode field with a code not carried (used by the pixels or not; BLT_MODE is judged for a BLT
   -- only)", "a vector with a pattern that isn't solid"
   abbrev pub row24 : Primitive → Bool
   row24 Blt =
-      not (sourceMode registers =? 0b00)
+      sourceMode registers =? 0b11
       || not (sourceSelect registers =? 0b00 || sourceSelect registers =? 0b01)
       || not (patternMode registers =? 0b00 || patternMode registers =? 0b01)
+      || row24Source
       || row24Both
-  row24 Vector = not (patternMode registers =? 0b00) || row24Both
+  row24 Vector = not (patternMode registers =? 0b00) || sourceBits || row24Both
 
   -- 25: "width, height or vector length 0"
   abbrev pub row25 : Primitive → Bool
@@ -56,7 +69,8 @@ module _ (registers : List ℕ) where
   row27 Blt framelength = rectangleOutside framelength (bltOf registers .destination)
   row27 Vector framelength = vectorOutside framelength (vectorOf registers)
 
-  -- 28: "a BLT's source select is frame memory, whatever the raster code, and some byte of some source pixel lies outside"
+  -- 28: "a BLT's source select is frame memory, whatever the raster code, and some byte of some source pixel lies outside", of a
+  -- mono source "the source bytes that hold the needed bits"
   abbrev pub row28 : Primitive → ℕ → Bool
   row28 Blt framelength = sourceOutside framelength (bltOf registers .source)
   row28 Vector framelength = false

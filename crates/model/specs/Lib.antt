@@ -11,6 +11,7 @@ pub mod Pattern
 pub mod Completion
 pub mod Bounds
 pub mod Rectangle
+pub mod Expansion
 pub mod Operands
 pub mod BltPixel
 pub mod VectorPixel

@@ -117,7 +117,10 @@ module _ (registers : List ℕ) where
   abbrev pub destinationOffset : ℕ
   destinationOffset = field (word registers DST-OFFSET) 23 0
 
-  -- ---- GP_SRC_OFFSET, 04h: OFFSET 23:0; as GP_VEC_ERR: A_ERR 31:16, D_ERR 15:0, each in two's complement
+  -- ---- GP_SRC_OFFSET, 04h: XLSBS 28:26, OFFSET 23:0; as GP_VEC_ERR: A_ERR 31:16, D_ERR 15:0, each in two's complement
+
+  abbrev pub sourceSkip : ℕ
+  sourceSkip = field (word registers SRC-OFFSET) 28 26
 
   abbrev pub sourceOffset : ℕ
   sourceOffset = field (word registers SRC-OFFSET) 23 0

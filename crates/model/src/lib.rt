@@ -26,6 +26,8 @@ pub const WID_HEIGHT: usize = 4;
 
 pub const SRC_COLOR_FG: usize = 5;
 
+pub const SRC_COLOR_BG: usize = 6;
+
 pub const PAT_COLOR_0: usize = 7;
 
 pub const PAT_COLOR_1: usize = 8;
@@ -153,10 +155,28 @@ pub struct Rectangle {
     pub rows: Axis,
 }
 
-// Where a BLT's source values come from: none is selected and all are one colour, or a rectangle of frame memory.
+// A mono source: the bytes of frame memory that hold its rows of bits, how many bits of a row's first byte are skipped, the
+// colours of a set and a clear bit, whether the bits are inverted before, and whether a clear bit writes nothing.
+pub struct MonoSource {
+    pub bytes: Rectangle,
+    pub skip: usize,
+    pub foreground: u32,
+    pub background: u32,
+    pub inversion: bool,
+    pub transparent: bool,
+}
+
+// Where a BLT's source values come from: none is selected and all are one colour; a rectangle of frame memory; bits there.
 pub enum Source {
     Unselected(u32),
     Frame(Rectangle),
+    Bits(MonoSource),
+}
+
+// What a source gives a pixel: nothing is written there, or a value.
+pub enum SourceValue {
+    Transparent,
+    Value(u32),
 }
 
 // A mono pattern: its eight rows, the row and column of the first pixel, the colours of a clear and a set bit, and whether a

@@ -2,32 +2,82 @@
 ghost use mathlib.Core.Path.{_≡_};
 ghost use Prim.Native.Nat.{_+_, _^_, _≤_, _<_};
 ghost use lib.ListN.{length};
+ghost use Rattle.model.specs.Choice.{if_then_else_};
 ghost use Rattle.model.specs.Formats.{Depth};
 ghost use Rattle.model.specs.Operands.{drawOperands};
+ghost use Rattle.model.specs.Expansion.{byteColumn, expand as expandBit};
 ghost use Rattle.model.specs.BltPixel.{sourceValue, monoBit, withPattern, operandsAt};
 ghost use Rattle.model.specs.declared.Pattern.the-variants.{Mono};
 ghost use Rattle.laws.specs.Ranges.{FitPattern};
-ghost use Rattle.laws.specs.Rows.{SourceWithin, PixelOf};
+ghost use Rattle.laws.specs.Rows.{bitAt, SourceWithin, solidOperands, storedValue, PixelOf};
+ghost use Rattle.pixel.specs.Prepared.{Prepared};
 use model::Blt;
 use model::MonoPattern;
+use model::MonoSource;
 use model::Operands;
 use model::Pattern;
 use model::Rectangle;
 use model::Source;
+use model::SourceValue;
+use pixel::Operation;
 
-// The source value of the pixel at column i of row j.
-fn source_value(f: &[u8], s: Source, i: usize, j: usize) -> u32
+// ---- sources
+
+// The bit that is set after inversion.
+fn set_bit(inversion: bool) -> u32
+    ensures { λ r. ⌜ r ≡ (if inversion then 0 else 1) ⌝ }
+{
+    if inversion {
+        return 0;
+    }
+    1
+}
+
+// What a mono source makes of a bit.
+fn expand(m: MonoSource, bit: u32) -> SourceValue
+    ensures { λ v. ⌜ v ≡ expandBit m bit ⌝ }
+{
+    let set = set_bit(m.inversion);
+    if bit == set {
+        return SourceValue::Value(m.foreground);
+    }
+    let transparent = m.transparent;
+    if transparent {
+        return SourceValue::Transparent;
+    }
+    SourceValue::Value(m.background)
+}
+
+// What it gives column i of a row whose bytes begin at `from`.
+pub fn expanded(f: &[u8], m: MonoSource, from: usize, i: usize) -> SourceValue
+    requires { ⌜ (m .skip + i < 2 ^ 32) × (from + byteColumn (m .skip) i < length (now f)) ⌝ }
+    ensures { λ v. ⌜ v ≡ expandBit m (bitAt (m .skip) from i (now (f .entry))) ⌝ }
+{
+    let x = m.skip + i;
+    let byte = pixel::get1(f, from + x / 8);
+    expand(m, (byte >> (7 - x % 8)) % 2)
+}
+
+// What a source gives the pixel at column i of row j.
+fn source_value(f: &[u8], s: Source, i: usize, j: usize) -> SourceValue
     requires { ⌜ SourceWithin (length (now f)) s i j ⌝ }
     ensures { λ r. ⌜ r ≡ sourceValue s i j (now (f .entry)) ⌝ }
 {
     match s {
-        Source::Unselected(color) => color,
+        Source::Unselected(color) => SourceValue::Value(color),
         Source::Frame(r) => {
             let at = rectangle::pixel_byte(r, i, j);
-            pixel::get(r.depth, f, at)
+            SourceValue::Value(pixel::get(r.depth, f, at))
+        }
+        Source::Bits(m) => {
+            let bytes = m.bytes;
+            let from = rectangle::pixel_byte(bytes, 0, j);
+            expanded(f, m, from, i)
         }
     }
 }
+
+// ---- patterns
 
 // The mono pattern's bit there.
 fn mono_bit(p: MonoPattern, d: Rectangle, i: usize, j: usize) -> u32
@@ -76,6 +126,8 @@ fn with_pattern(p: Pattern, d: Rectangle, i: usize, j: usize, source: u32) -> Op
     }
 }
 
+// ---- pixels
+
 // What the pixel at column i of row j gets.
 pub fn at(f: &[u8], b: Blt, i: usize, j: usize) -> Operands
     requires { ⌜ PixelOf (length (now f)) b i j ⌝ }
@@ -84,8 +136,11 @@ pub fn at(f: &[u8], b: Blt, i: usize, j: usize) -> Operands
     let s = b.source;
     let p = b.pattern;
     let d = b.destination;
-    let source = source_value(f, s, i, j);
-    with_pattern(p, d, i, j, source)
+    let value = source_value(f, s, i, j);
+    match value {
+        SourceValue::Transparent => Operands::Nothing,
+        SourceValue::Value(source) => with_pattern(p, d, i, j, source),
+    }
 }
 
 // Draws what a pixel gets, at its first byte.
@@ -99,5 +154,27 @@ pub fn draw(f: &mut [u8], depth: usize, code: u32, at: usize, o: Operands)
             let op = pixel::prepare(code, pattern);
             pixel::paint(f, op, depth, at, source);
         }
+    }
+}
+
+// Draws what a source and a solid pattern give, with the operation made ready for the pattern's colour.
+pub fn draw_solid(f: &mut [u8], op: Operation, depth: usize, at: usize, v: SourceValue)
+    requires { ⌜ (Prepared op) × (Depth depth) × (at + depth ≤ length (now f)) ⌝ }
+    ensures { λ _. ⌜ now (f .exit) ≡ drawOperands depth (op .code) at (solidOperands (op .pattern) v) (now (f .entry)) ⌝ }
+{
+    match v {
+        SourceValue::Transparent => {}
+        SourceValue::Value(source) => pixel::paint(f, op, depth, at, source),
+    }
+}
+
+// Stores what a source gives as it is.
+pub fn store(f: &mut [u8], depth: usize, at: usize, v: SourceValue)
+    requires { ⌜ (Depth depth) × (at + depth ≤ length (now f)) ⌝ }
+    ensures { λ _. ⌜ now (f .exit) ≡ storedValue depth at v (now (f .entry)) ⌝ }
+{
+    match v {
+        SourceValue::Transparent => {}
+        SourceValue::Value(value) => pixel::put(depth, f, at, value),
     }
 }

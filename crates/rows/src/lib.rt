@@ -1,14 +1,16 @@
 // Rows of a BLT: n pixels of row j, from column i. One loop serves every source and pattern; faster ones stand beside it, behind
 // the same contract.
 ghost use mathlib.Core.Path.{_≡_};
+ghost use mathlib.Core.Bool.{true};
 ghost use Prim.Native.Nat.{_+_, _/_, _^_, _<_};
 ghost use lib.ListN.{length};
 ghost use Rattle.model.specs.Formats.{Depth};
 ghost use Rattle.model.specs.declared.Pattern.the-variants.{Solid};
-ghost use Rattle.model.specs.declared.Source.the-variants.{Unselected, Frame};
+ghost use Rattle.model.specs.declared.Source.the-variants.{Unselected, Frame, Bits};
 ghost use Rattle.laws.specs.Rows.{Row, rowPixels};
-ghost use Rattle.laws.specs.Fills.{filled, lowColumn};
+ghost use Rattle.laws.specs.Fills.{filled, isOpaque, lowColumn};
 use model::Blt;
+use model::MonoSource;
 use model::Rectangle;
 
 // Any source and pattern.
@@ -61,6 +63,47 @@ pub fn solid_source(f: &mut [u8], b: Blt, color: u32, s: Rectangle, i: usize, j:
         let source = pixel::get(d.depth, f, rectangle::along(columns, from, m));
         let at = rectangle::along(columns, to, m);
         pixel::paint(f, op, d.depth, at, source);
+        m += 1;
+    }
+}
+
+// A solid pattern with a mono source.
+pub fn solid_bits(f: &mut [u8], b: Blt, color: u32, s: MonoSource, i: usize, j: usize, n: usize)
+    requires { ⌜ (Row (length (now f)) b i j n) × (0 < n) × (b .pattern ≡ Solid color) × (b .source ≡ Bits s) ⌝ }
+    ensures { λ _. ⌜ now (f .exit) ≡ rowPixels b i j n (now (f .entry)) ⌝ }
+{
+    let op = pixel::prepare(b.code, color);
+    let first = b.destination;
+    let to = rectangle::pixel_byte(first, i, j);
+    let bytes = s.bytes;
+    let from = rectangle::pixel_byte(bytes, 0, j);
+    let mut m = 0;
+    while m < n {
+        let d = b.destination;
+        let columns = d.columns;
+        let v = operands::expanded(f, s, from, i + m);
+        let at = rectangle::along(columns, to, m);
+        operands::draw_solid(f, op, d.depth, at, v);
+        m += 1;
+    }
+}
+
+// The same under raster operation CCh, which gives the source.
+pub fn copy_bits(f: &mut [u8], b: Blt, color: u32, s: MonoSource, i: usize, j: usize, n: usize)
+    requires { ⌜ (Row (length (now f)) b i j n) × (0 < n) × (b .pattern ≡ Solid color) × (b .source ≡ Bits s) × (b .code ≡ 204) ⌝ }
+    ensures { λ _. ⌜ now (f .exit) ≡ rowPixels b i j n (now (f .entry)) ⌝ }
+{
+    let first = b.destination;
+    let to = rectangle::pixel_byte(first, i, j);
+    let bytes = s.bytes;
+    let from = rectangle::pixel_byte(bytes, 0, j);
+    let mut m = 0;
+    while m < n {
+        let d = b.destination;
+        let columns = d.columns;
+        let v = operands::expanded(f, s, from, i + m);
+        let at = rectangle::along(columns, to, m);
+        operands::store(f, d.depth, at, v);
         m += 1;
     }
 }
@@ -130,10 +173,10 @@ fn low_column(negative: bool, i: usize, n: usize) -> usize
     i
 }
 
-// A solid pattern under raster operation F0h: a part of frame memory that starts at the row's first byte is lent to the row
-// writer.
+// A solid pattern under raster operation F0h, where the source leaves no pixel out: a part of frame memory that starts at the
+// row's first byte is lent to the row writer.
 pub fn fill(f: &mut [u8], b: Blt, color: u32, i: usize, j: usize, n: usize)
-    requires { ⌜ (Row (length (now f)) b i j n) × (0 < n) × (b .pattern ≡ Solid color) × (b .code ≡ 240) ⌝ }
+    requires { ⌜ (Row (length (now f)) b i j n) × (0 < n) × (b .pattern ≡ Solid color) × (b .code ≡ 240) × (isOpaque (b .source) ≡ true) ⌝ }
     ensures { λ _. ⌜ now (f .exit) ≡ rowPixels b i j n (now (f .entry)) ⌝ }
 {
     let d = b.destination;

@@ -1,61 +1,41 @@
 use mathlib.Core.Path.{sym, _∙_}
-use mathlib.Core.Bool.{_||_}
-use Rattle.model.specs.Choice.{or-left, or-right}
-use Rattle.model.specs.Registers.{sourceTransparency, sourceInversion, patternInversion, channel3Enable}
 use borrow.Author.Needs.{needs}
 use Rattle.judging.proofs.bad_bits.Statement.{statement}
 use Rattle.judging.proofs.bad_bits.Tie as tie
 
-array-read-mode : tie.Need-array-read-mode
-array-read-mode c = search needs
+array-read-is-set : tie.Need-array-read-is-set
+array-read-is-set c = search needs
 
 is-set-requires : tie.Need-is-set-requires
 is-set-requires c κs = search needs
 
 returns : tie.Need-returns
-returns c = sym (or-left _ _ (or-left _ _ (or-left _ _ (or-left (sourceTransparency (c .before .before .args .t1)) _ (sym (c .before .is-set .ensures) ∙ c .if1 .taken)))))
+returns c = rw (sym (c .before .is-set .ensures) ∙ c .if1 .taken)
+
+array-read-is-set-2 : tie.Need-array-read-is-set-2
+array-read-is-set-2 c = search needs
 
 is-set-requires-2 : tie.Need-is-set-requires-2
 is-set-requires-2 c κs = search needs
 
 returns-2 : tie.Need-returns-2
-returns-2 c = let r = c .before .before .before .before .args .t1 in sym (or-left _ _ (or-left _ _ (or-left _ _ (or-right (sourceTransparency r) (sourceInversion r) (sym (c .before .is-set2 .ensures) ∙ c .if2 .taken)))))
-
-is-set-requires-3 : tie.Need-is-set-requires-3
-is-set-requires-3 c κs = search needs
-
-returns-3 : tie.Need-returns-3
-returns-3 c = let r = c .before .before .before .before .before .before .args .t1 in sym (or-left _ _ (or-left _ _ (or-right (sourceTransparency r || sourceInversion r) (patternInversion r) (sym (c .before .is-set3 .ensures) ∙ c .if3 .taken))))
-
-array-read-is-set : tie.Need-array-read-is-set
-array-read-is-set c = search needs
-
-is-set-requires-4 : tie.Need-is-set-requires-4
-is-set-requires-4 c κs = search needs
-
-returns-4 : tie.Need-returns-4
-returns-4 c = let r = c .before .before .before .before .before .before .before .before .args .t1 in sym (or-left _ _ (or-right (sourceTransparency r || sourceInversion r || patternInversion r) (channel3Enable r) (sym (c .before .is-set4 .ensures) ∙ c .if4 .taken)))
+returns-2 c = rw (sym (c .before .before .before .is-set .ensures) ∙ c .before .before .if1 .left, sym (c .before .is-set2 .ensures) ∙ c .if2 .taken)
 
 array-read-base : tie.Need-array-read-base
 array-read-base c = search needs
 
-returns-5 : tie.Need-returns-5
-returns-5 c =
-    rw (sym (c .before .before .before .before .before .before .before .is-set .ensures) ∙ c .before .before .before .before .before .before .if1 .left, sym (c .before .before .before .before .before .is-set2 .ensures) ∙ c .before .before .before .before .if2 .left, sym (c .before .before .before .is-set3 .ensures) ∙ c .before .before .if3 .left, sym (c .before .is-set4 .ensures) ∙ c .if4 .left)
+returns-3 : tie.Need-returns-3
+returns-3 c = rw (sym (c .before .before .before .is-set .ensures) ∙ c .before .before .if1 .left, sym (c .before .is-set2 .ensures) ∙ c .if2 .left)
 
 pub bad-bits-spec : {M : Type 1} → statement M
 bad-bits-spec =
     tie.close
     (tie.spec
-    array-read-mode
+    array-read-is-set
     is-set-requires
     returns
+    array-read-is-set-2
     is-set-requires-2
     returns-2
-    is-set-requires-3
-    returns-3
-    array-read-is-set
-    is-set-requires-4
-    returns-4
     array-read-base
-    returns-5)
+    returns-3)

@@ -1,5 +1,6 @@
 use mathlib.Core.Path.{subst, _∙_}
-use Rattle.judging.specs.Extents.{RangedSource, source-extent}
+use Rattle.laws.specs.Ranges.{RangedSource}
+use Rattle.judging.specs.Extents.{frame-extent, bits-extent}
 use borrow.Author.Needs.{needs}
 use Rattle.judging.proofs.source_outside.Statement.{statement}
 use Rattle.judging.proofs.source_outside.Tie as tie
@@ -16,13 +17,35 @@ extent-requires c κs = subst RangedSource (c .before .source .given .1) (c .bef
 is-outside-requires : tie.Need-is-outside-requires
 is-outside-requires c κs = search needs
 
+enum-known-source-2 : tie.Need-enum-known-source-2
+enum-known-source-2 c = search needs
+
+extent-requires-2 : tie.Need-extent-requires-2
+extent-requires-2 c κs = subst RangedSource (c .before .before .source2 .given .1) (c .before .before .before .before .pre)
+
+is-outside-requires-2 : tie.Need-is-outside-requires-2
+is-outside-requires-2 c κs = search needs
+
 returns : tie.Need-returns
 returns c = search needs
 
 returns-2 : tie.Need-returns-2
-returns-2 c = c .is-outside .ensures ∙ source-extent _ (c .before .before .before .source .given .1) (c .before .extent .ensures)
+returns-2 c = c .is-outside .ensures ∙ frame-extent _ (c .before .before .before .source .given .1) (c .before .extent .ensures)
+
+returns-3 : tie.Need-returns-3
+returns-3 c = c .is-outside2 .ensures ∙ bits-extent _ (c .before .before .before .before .source2 .given .1) (c .before .extent2 .ensures)
 
 pub source-outside-spec : {M : Type 1} → statement M
 source-outside-spec =
     tie.close
-    (tie.spec enum-told enum-known-source extent-requires is-outside-requires returns returns-2)
+    (tie.spec
+    enum-told
+    enum-known-source
+    extent-requires
+    is-outside-requires
+    enum-known-source-2
+    extent-requires-2
+    is-outside-requires-2
+    returns
+    returns-2
+    returns-3)

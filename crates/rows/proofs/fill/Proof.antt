@@ -36,7 +36,7 @@ same-length : tie.Need-same-length
 same-length c = search needs
 
 returns : tie.Need-returns
-returns c = fill-part (c .before .before .before .before .before .before .before .before .before .before .pre .0) (c .before .before .before .before .before .before .before .before .before .before .pre .2) (c .before .before .before .before .before .before .before .before .before .before .pre .3) (c .before .before .before .before .before .before .before .before .before .before .pre .1) (c .before .before .before .before .before .pixel-byte .ensures ∙ ap (λ (x : ℕ). pixelByte (c .before .before .before .before .before .before .before .before .before .before .args .b .destination) x (c .before .before .before .before .before .before .before .before .before .before .args .j)) (c .before .before .before .before .before .before .low-column .ensures .0)) _ refl (c .before .before .fill-row .ensures)
+returns c = fill-part (c .before .before .before .before .before .before .before .before .before .before .pre .0) (c .before .before .before .before .before .before .before .before .before .before .pre .2) (c .before .before .before .before .before .before .before .before .before .before .pre .3) (c .before .before .before .before .before .before .before .before .before .before .pre .4) (c .before .before .before .before .before .before .before .before .before .before .pre .1) (c .before .before .before .before .before .pixel-byte .ensures ∙ ap (λ (x : ℕ). pixelByte (c .before .before .before .before .before .before .before .before .before .before .args .b .destination) x (c .before .before .before .before .before .before .before .before .before .before .args .j)) (c .before .before .before .before .before .before .low-column .ensures .0)) _ refl (c .before .before .fill-row .ensures)
 
 pub fill-spec : {M : Type 1} → statement M
 fill-spec =

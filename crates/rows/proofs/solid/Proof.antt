@@ -4,7 +4,7 @@ use mathlib.Core.Path.{_∙_}
 use native.Mathlib.Omega.{arith}
 use Rattle.model.specs.BltPixel.{sourceValue, drawAt}
 use Rattle.laws.specs.Order.{Remain, remain-all, remain-next, remain-none}
-use Rattle.laws.specs.Rows.{length-at, solid-drawn, row-reached, row-along, row-at, row-in}
+use Rattle.laws.specs.Rows.{length-at, value-drawn, row-reached, row-along, row-at, row-in}
 use Rattle.rows.proofs.solid.Statement.{statement}
 use Rattle.rows.proofs.solid.Tie as tie
 
@@ -40,7 +40,7 @@ unfolding sourceValue
 loop-again c =
     remain-next (λ x. length-at (c .before .before .before .before .before .before .before .before .before .before .before .before .before .args .b) x (c .before .before .before .before .before .before .before .before .before .before .before .before .before .args .j)) (c .before .before .before .before .before .before .before .before .loop .inv) (c .before .before .before .before .before .before .before .loop-test .taken)
     (c .before .before .paint .ensures
-    ∙ solid-drawn (c .before .before .before .before .before .before .before .before .before .before .before .before .before .args .b) _ _ _ (c .before .before .before .before .before .before .before .before .before .before .before .prepare .ensures .1) (row-at (c .before .before .before .before .before .before .before .before .before .before .before .before .before .pre .0) (c .before .before .before .before .before .before .before .loop-test .taken) (c .before .before .before .before .before .before .before .before .loop .inv .same) (c .before .before .before .before .before .before .before .before .before .pixel-byte .ensures) (c .before .before .before .before .along .ensures)) (c .before .before .before .before .before .before .before .before .before .before .before .before .before .pre .2) (c .before .before .before .before .before .before .before .before .before .before .before .prepare .ensures .2) (rw (c .before .before .before .before .before .before .before .before .before .before .before .before .before .pre .3)))
+    ∙ value-drawn (c .before .before .before .before .before .before .before .before .before .before .before .before .before .args .b) _ _ _ (c .before .before .before .before .before .before .before .before .before .before .before .prepare .ensures .1) (row-at (c .before .before .before .before .before .before .before .before .before .before .before .before .before .pre .0) (c .before .before .before .before .before .before .before .loop-test .taken) (c .before .before .before .before .before .before .before .before .loop .inv .same) (c .before .before .before .before .before .before .before .before .before .pixel-byte .ensures) (c .before .before .before .before .along .ensures)) (c .before .before .before .before .before .before .before .before .before .before .before .before .before .pre .2) (c .before .before .before .before .before .before .before .before .before .before .before .prepare .ensures .2) (rw (c .before .before .before .before .before .before .before .before .before .before .before .before .before .pre .3)))
 
 same-length : tie.Need-same-length Inv-loop μ-loop
 same-length c = c .before .loop .inv .same

@@ -1,10 +1,11 @@
 use borrow.Author.Needs.{needs}
 use Prim.Native.Nat.{_-_}
-use mathlib.Core.Path.{refl, _∙_}
+use mathlib.Core.Path.{refl, ap, _∙_}
 use native.Mathlib.Omega.{arith}
 use Rattle.model.specs.BltPixel.{drawAt}
+use Rattle.model.specs.declared.SourceValue.the-variants.{Value}
 use Rattle.laws.specs.Order.{Remain, remain-all, remain-next, remain-none}
-use Rattle.laws.specs.Rows.{source-within, length-at, solid-drawn, row-pixel, row-reached, row-along, row-at, row-in, source-along, source-read}
+use Rattle.laws.specs.Rows.{source-within, length-at, value-drawn, row-pixel, row-reached, row-along, row-at, row-in, source-along, source-read}
 use Rattle.rows.proofs.solid_source.Statement.{statement}
 use Rattle.rows.proofs.solid_source.Tie as tie
 
@@ -48,8 +49,8 @@ loop-again : tie.Need-loop-again Inv-loop μ-loop
 loop-again c =
     remain-next (λ x. length-at (c .before .before .before .before .before .before .before .before .before .before .before .before .before .before .before .before .before .args .b) x (c .before .before .before .before .before .before .before .before .before .before .before .before .before .before .before .before .before .args .j)) (c .before .before .before .before .before .before .before .before .before .before .before .loop .inv) (c .before .before .before .before .before .before .before .before .before .before .loop-test .taken)
     (c .before .before .paint .ensures
-    ∙ solid-drawn (c .before .before .before .before .before .before .before .before .before .before .before .before .before .before .before .before .before .args .b) _ _ _ (c .before .before .before .before .before .before .before .before .before .before .before .before .before .before .before .prepare .ensures .1) (row-at (c .before .before .before .before .before .before .before .before .before .before .before .before .before .before .before .before .before .pre .0) (c .before .before .before .before .before .before .before .before .before .before .loop-test .taken) (c .before .before .before .before .before .before .before .before .before .before .before .loop .inv .same) (c .before .before .before .before .before .before .before .before .before .before .before .before .before .pixel-byte .ensures) (c .before .before .before .before .along2 .ensures)) (c .before .before .before .before .before .before .before .before .before .before .before .before .before .before .before .before .before .pre .2) (c .before .before .before .before .before .before .before .before .before .before .before .before .before .before .before .prepare .ensures .2)
-    (c .before .before .before .before .before .get .ensures ∙ source-read (c .before .before .before .before .before .before .before .before .before .before .before .before .before .before .before .before .before .pre .0) (c .before .before .before .before .before .before .before .before .before .before .loop-test .taken) (c .before .before .before .before .before .before .before .before .before .before .before .loop .inv .same) (c .before .before .before .before .before .before .before .before .before .before .before .before .before .before .before .before .before .pre .3) (c .before .before .before .before .before .before .before .before .before .before .before .before .pixel-byte2 .ensures) (c .before .before .before .before .before .before .along .ensures) .1 _))
+    ∙ value-drawn (c .before .before .before .before .before .before .before .before .before .before .before .before .before .before .before .before .before .args .b) _ _ _ (c .before .before .before .before .before .before .before .before .before .before .before .before .before .before .before .prepare .ensures .1) (row-at (c .before .before .before .before .before .before .before .before .before .before .before .before .before .before .before .before .before .pre .0) (c .before .before .before .before .before .before .before .before .before .before .loop-test .taken) (c .before .before .before .before .before .before .before .before .before .before .before .loop .inv .same) (c .before .before .before .before .before .before .before .before .before .before .before .before .before .pixel-byte .ensures) (c .before .before .before .before .along2 .ensures)) (c .before .before .before .before .before .before .before .before .before .before .before .before .before .before .before .before .before .pre .2) (c .before .before .before .before .before .before .before .before .before .before .before .before .before .before .before .prepare .ensures .2)
+    (ap Value (c .before .before .before .before .before .get .ensures) ∙ source-read (c .before .before .before .before .before .before .before .before .before .before .before .before .before .before .before .before .before .pre .0) (c .before .before .before .before .before .before .before .before .before .before .loop-test .taken) (c .before .before .before .before .before .before .before .before .before .before .before .loop .inv .same) (c .before .before .before .before .before .before .before .before .before .before .before .before .before .before .before .before .before .pre .3) (c .before .before .before .before .before .before .before .before .before .before .before .before .pixel-byte2 .ensures) (c .before .before .before .before .before .before .along .ensures) .1 _))
 
 same-length : tie.Need-same-length Inv-loop μ-loop
 same-length c = c .before .loop .inv .same

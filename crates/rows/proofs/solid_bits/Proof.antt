@@ -1,0 +1,78 @@
+use borrow.Author.Needs.{needs}
+use Prim.Native.Nat.{_-_}
+use mathlib.Core.Path.{refl, _∙_}
+use native.Mathlib.Omega.{arith}
+use Rattle.model.specs.BltPixel.{drawAt}
+use Rattle.laws.specs.Order.{Remain, remain-all, remain-next, remain-none}
+use Rattle.laws.specs.Rows.{length-at, solid-drawn, row-reached, row-along, row-at, row-in, bits-within, bits-read}
+use Rattle.rows.proofs.solid_bits.Statement.{statement}
+use Rattle.rows.proofs.solid_bits.Tie as tie
+
+abbrev Inv-loop : tie.InvT-loop
+Inv-loop f₀ b color s i j n op to from m₀ f m = Remain (λ x. drawAt b x j) i n f₀ m f
+
+abbrev μ-loop : tie.MeasureT-loop
+μ-loop f₀ b color s i j n op to from m₀ f m = n - m
+
+prepare-requires : tie.Need-prepare-requires Inv-loop μ-loop
+prepare-requires c κs = search needs
+
+pixel-byte-requires : tie.Need-pixel-byte-requires Inv-loop μ-loop
+pixel-byte-requires c κs = row-reached (c .before .before .before .pre .0) (omega (arith, c .before .before .before .pre .1))
+
+pixel-byte-requires-2 : tie.Need-pixel-byte-requires-2 Inv-loop μ-loop
+pixel-byte-requires-2 c κs = bits-within (c .before .before .before .before .before .pre .0) (c .before .before .before .before .before .pre .1) refl (c .before .before .before .before .before .pre .3) .begins
+
+loop-holds : tie.Need-loop-holds Inv-loop μ-loop
+loop-holds c = remain-all _
+
+add-expanded : tie.Need-add-expanded Inv-loop μ-loop
+add-expanded c = omega (arith, c .before .before .before .before .before .before .before .before .before .before .before .pre .0 .columns, c .before .before .before .before .before .before .before .before .before .before .before .pre .0 .fit .destination-fit .ranged .wide-most)
+
+expanded-requires : tie.Need-expanded-requires Inv-loop μ-loop
+expanded-requires c κs = let w = bits-within (c .before .before .before .before .before .before .before .before .before .before .before .pre .0) (c .before .before .before .loop-test .taken) (c .before .before .before .before .loop .inv .same) (c .before .before .before .before .before .before .before .before .before .before .before .pre .3) in (w .bit-near, rw (c .before .before .before .before .before .pixel-byte2 .ensures) (w .bit-in))
+
+along-requires : tie.Need-along-requires Inv-loop μ-loop
+along-requires c κs = row-along (c .before .before .before .before .before .before .before .before .before .before .before .before .pre .0) (c .before .before .before .before .loop-test .taken) (c .before .before .before .before .before .loop .inv .same) (c .before .before .before .before .before .before .before .before .pixel-byte .ensures)
+
+draw-solid-requires : tie.Need-draw-solid-requires Inv-loop μ-loop
+draw-solid-requires c κs = let r = row-in (c .before .before .before .before .before .before .before .before .before .before .before .before .before .before .pre .0) (c .before .before .before .before .before .before .loop-test .taken) (c .before .before .before .before .before .before .before .loop .inv .same) (row-at (c .before .before .before .before .before .before .before .before .before .before .before .before .before .before .pre .0) (c .before .before .before .before .before .before .loop-test .taken) (c .before .before .before .before .before .before .before .loop .inv .same) (c .before .before .before .before .before .before .before .before .before .before .pixel-byte .ensures) (c .before .along .ensures)) in (c .before .before .before .before .before .before .before .before .before .before .before .before .prepare .ensures .0, r .0, r .1)
+
+add-m : tie.Need-add-m Inv-loop μ-loop
+add-m c = omega arith
+
+loop-less : tie.Need-loop-less Inv-loop μ-loop
+loop-less c = omega arith
+
+loop-again : tie.Need-loop-again Inv-loop μ-loop
+loop-again c =
+    remain-next (λ x. length-at (c .before .before .before .before .before .before .before .before .before .before .before .before .before .before .before .before .before .args .b) x (c .before .before .before .before .before .before .before .before .before .before .before .before .before .before .before .before .before .args .j)) (c .before .before .before .before .before .before .before .before .before .before .loop .inv) (c .before .before .before .before .before .before .before .before .before .loop-test .taken)
+    (c .before .before .draw-solid .ensures
+    ∙ solid-drawn (c .before .before .before .before .before .before .before .before .before .before .before .before .before .before .before .before .before .args .b) _ _ _ (c .before .before .before .before .before .before .before .before .before .before .before .before .before .before .before .prepare .ensures .1) (row-at (c .before .before .before .before .before .before .before .before .before .before .before .before .before .before .before .before .before .pre .0) (c .before .before .before .before .before .before .before .before .before .loop-test .taken) (c .before .before .before .before .before .before .before .before .before .before .loop .inv .same) (c .before .before .before .before .before .before .before .before .before .before .before .before .before .pixel-byte .ensures) (c .before .before .before .before .along .ensures)) (c .before .before .before .before .before .before .before .before .before .before .before .before .before .before .before .before .before .pre .2) (c .before .before .before .before .before .before .before .before .before .before .before .before .before .before .before .prepare .ensures .2)
+    (c .before .before .before .before .before .expanded .ensures ∙ bits-read (c .before .before .before .before .before .before .before .before .before .before .before .before .before .before .before .before .before .pre .0) (c .before .before .before .before .before .before .before .before .before .loop-test .taken) (c .before .before .before .before .before .before .before .before .before .before .loop .inv .same) (c .before .before .before .before .before .before .before .before .before .before .before .before .before .before .before .before .before .pre .3) (c .before .before .before .before .before .before .before .before .before .before .before .pixel-byte2 .ensures) _))
+
+same-length : tie.Need-same-length Inv-loop μ-loop
+same-length c = c .before .loop .inv .same
+
+returns : tie.Need-returns Inv-loop μ-loop
+returns c = remain-none (c .before .loop .inv) (omega arith)
+
+pub solid-bits-spec : {M : Type 1} → statement M
+solid-bits-spec =
+    tie.close
+    (tie.spec
+    Inv-loop
+    μ-loop
+    prepare-requires
+    pixel-byte-requires
+    pixel-byte-requires-2
+    loop-holds
+    add-expanded
+    expanded-requires
+    along-requires
+    draw-solid-requires
+    add-m
+    loop-less
+    loop-again
+    same-length
+    returns)
