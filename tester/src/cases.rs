@@ -1,6 +1,6 @@
 //! Random cases: recordings and traces, directed so that accepted drawing is common and every refusal comes up.
 
-use crate::model::{self, Kind, Registers, State, Word};
+use crate::model::{self, Kind, Registers, SourceMode, State, Word};
 use crate::model::{
     BASE_OFFSET, BLT_MODE, CH3_MODE_STR, CH3_OFFSET, CH3_WIDHI, DST_OFFSET, PAT_COLOR_0, PAT_COLOR_1, PAT_DATA_0, PAT_DATA_1,
     RASTER_MODE, SRC_COLOR_BG, SRC_COLOR_FG, SRC_OFFSET, STRIDE, VECTOR_MODE, VEC_ERR, VEC_LEN, WID_HEIGHT,
@@ -70,24 +70,28 @@ impl Rng {
 
 // ---- What a command covers ------------------------------------------------------------------------------------------------------
 
-/// The lowest and highest byte of a command's destination (or source) pixels.
+/// The lowest and highest byte of a command's destination (or source) pixels; of a mono source, of the bytes that hold its bits.
 pub fn span(kind: Kind, registers: &Registers, source: bool) -> (i64, i64) {
     let depth = model::bytes_per_pixel(registers).unwrap_or(1);
     let mut low = i64::MAX;
     let mut high = i64::MIN;
-    let mut take = |first: i64| {
+    let mut take = |first: i64, bytes: i64| {
         low = low.min(first);
-        high = high.max(first + depth - 1);
+        high = high.max(first + bytes - 1);
     };
     match kind {
         Kind::Blt => {
             let (w, h) = (model::width(registers), model::height(registers));
             for k in [0, w - 1, w * (h - 1), w * h - 1] {
                 let pixel = model::blt_pixel(registers, depth, k);
-                take(if source { pixel.source } else { pixel.destination });
+                if source {
+                    take(pixel.source, pixel.source_bytes);
+                } else {
+                    take(pixel.destination, depth);
+                }
             }
         }
-        Kind::Vector => model::vector_pixels(registers, depth).for_each(|pixel| take(pixel.position)),
+        Kind::Vector => model::vector_pixels(registers, depth).for_each(|pixel| take(pixel.position, depth)),
     }
     (low, high)
 }
@@ -111,7 +115,7 @@ fn settle(rng: &mut Rng, kind: Kind, registers: &mut Registers, frame_len: i64, 
         _ => rng.between(first, last),
     };
     if source && rng.chance(1, 2) {
-        // near the destination, so that the copy overlaps
+        // near the destination, so that the copy overlaps, or a font is drawn over
         let depth = model::bytes_per_pixel(registers).unwrap_or(1);
         let reach = if rng.chance(1, 3) { depth } else { depth * 3 + 2 };
         offset = (model::destination_offset(registers) + rng.between(-reach, reach)).clamp(first, last);
@@ -149,23 +153,70 @@ fn stride(rng: &mut Rng, row: i64) -> u32 {
     stride.min(65_535) as u32
 }
 
+const XLSBS: u32 = 7 << 26;
+const SI: u32 = 1 << 13;
+const PI: u32 = 1 << 12;
+const ST: u32 = 1 << 11;
+const X_NEGATIVE: u32 = 1 << 9;
+const Y_NEGATIVE: u32 = 1 << 8;
+
+fn set_source_mode(r: &mut Registers, code: u32) {
+    r[BLT_MODE] = r[BLT_MODE] & !(3 << 6) | code << 6;
+}
+
+/// Which of X and Y may be negative.
+fn directions(r: &Registers) -> u32 {
+    match model::source_mode(r) {
+        SourceMode::Unpacked if model::source_selected(r) => Y_NEGATIVE,
+        SourceMode::BytePacked if model::source_selected(r) => 0,
+        _ => X_NEGATIVE | Y_NEGATIVE,
+    }
+}
+
+/// A mono source's width: mostly about a multiple of eight, counted from its first pixel or from the first bit of that pixel's byte.
+fn mono_width(rng: &mut Rng, xlsbs: i64) -> i64 {
+    let about = 8 * rng.between(1, 5) + rng.between(-1, 1);
+    match rng.below(5) {
+        0 | 1 => about,
+        2 | 3 => about - xlsbs,
+        _ => rng.between(1, 17),
+    }
+}
+
 /// New values for a BLT that is to be drawn. `most` is about how many pixels it may have.
 fn wish_blt(rng: &mut Rng, registers: &Registers, frame_len: i64, most: i64) -> Registers {
     let mut r = *registers;
     r[RASTER_MODE] = raster_mode(rng, Kind::Blt, frame_len);
     let depth = model::bytes_per_pixel(&r).unwrap_or(1);
-    let selected = rng.chance(2, 5);
+    let (selected, source_mode) = match rng.below(20) {
+        0..=4 => (false, 0),
+        5..=7 => (false, rng.pick(&[1, 2])), // mono, and not used
+        8..=12 => (true, 0),
+        _ => (true, rng.pick(&[1, 2])),
+    };
+    let mono = selected && source_mode != 0;
+    if source_mode != 0 {
+        r[RASTER_MODE] |= rng.bits() & (SI | ST);
+    }
     if selected && rng.chance(1, 3) {
-        r[RASTER_MODE] = r[RASTER_MODE] & !0xFF | 0xCC; // a plain copy
+        let code = if mono { rng.pick(&[0xCC, 0xCC, 0xF0, 0x5A]) } else { 0xCC }; // a plain copy
+        r[RASTER_MODE] = r[RASTER_MODE] & !0xFF | code;
     }
     // throttle, checkpoint, destination required and the reserved bits have no effect
-    r[BLT_MODE] = rng.idle(0xFFFF_FC3C) | (rng.bits() & 0x300) | u32::from(selected);
+    r[BLT_MODE] = rng.idle(0xFFFF_FC3C) | source_mode << 6 | u32::from(selected);
+    r[BLT_MODE] |= rng.bits() & directions(&r);
+    r[SRC_OFFSET] = rng.idle(0xFF00_0000) | (rng.bits() & 0x00FF_FFFF);
+    if mono {
+        r[SRC_OFFSET] = r[SRC_OFFSET] & !XLSBS | (rng.bits() & XLSBS);
+    }
     let mut width = match rng.below(6) {
+        _ if mono => mono_width(rng, model::source_xlsbs(&r)),
         0 => 1,
         1 => rng.between(1, most),
         2 => rng.between(1, 40),
         _ => rng.between(1, 12),
     };
+    let most = if mono { most.max(40) } else { most };
     width = width.clamp(1, (frame_len / depth).min(most)).min(4_095);
     let mut height = match rng.below(6) {
         0 => 1,
@@ -174,20 +225,26 @@ fn wish_blt(rng: &mut Rng, registers: &Registers, frame_len: i64, most: i64) -> 
     };
     height = height.clamp(1, (most / width).max(1)).min(4_095);
     let row = width * depth;
+    // the bytes of a source row
+    let source_row = if mono { (model::source_xlsbs(&r) + width + 7) / 8 } else { row };
     let to = stride(rng, row);
-    let mut from = if rng.chance(1, 2) { to } else { stride(rng, row) };
+    let mut from = if rng.chance(1, if mono { 6 } else { 2 }) { to } else { stride(rng, source_row) };
     if to != 0 {
         height = height.min(1 + (frame_len - row) / i64::from(to));
     }
-    if selected && from != 0 && (height - 1) * i64::from(from) + row > frame_len {
+    if mono && source_mode == 2 {
+        height = height.min(frame_len / source_row); // whatever the source stride
+    } else if selected && from != 0 && (height - 1) * i64::from(from) + source_row > frame_len {
         from = if rng.chance(1, 2) { to } else { 0 };
     }
     r[STRIDE] = from << 16 | to;
     r[WID_HEIGHT] = rng.idle(0xF000_F000) | (width as u32) << 16 | height as u32;
     r[DST_OFFSET] = rng.bits() & 0xFC00_0000 | rng.idle(0x0300_0000);
-    r[SRC_OFFSET] = rng.idle(0xFF00_0000) | (rng.bits() & 0x00FF_FFFF);
     if rng.chance(3, 4) {
         r[SRC_COLOR_FG] = rng.stale();
+    }
+    if mono && rng.chance(3, 4) {
+        r[SRC_COLOR_BG] = rng.stale();
     }
     if rng.chance(3, 4) {
         r[PAT_COLOR_0] = rng.stale();
@@ -313,6 +370,20 @@ fn wish(rng: &mut Rng, kind: Kind, registers: &Registers, frame_len: u32, most: 
     *registers
 }
 
+/// Makes the source of a good BLT mono, half the time, with directions that 24 leaves it and the destination in the frame still.
+fn choose_source(rng: &mut Rng, r: &mut Registers, frame_len: u32) {
+    if rng.chance(1, 2) {
+        set_source_mode(r, rng.pick(&[1, 2]));
+        r[RASTER_MODE] |= rng.bits() & (SI | ST);
+        r[SRC_OFFSET] = r[SRC_OFFSET] & !XLSBS | (rng.bits() & XLSBS);
+    }
+    let refused = (X_NEGATIVE | Y_NEGATIVE) & !directions(r);
+    if r[BLT_MODE] & refused != 0 {
+        r[BLT_MODE] &= !refused;
+        settle(rng, Kind::Blt, r, i64::from(frame_len), false);
+    }
+}
+
 /// Changes one field so that judging refuses by this number (or by a lower one, where that cannot be had).
 fn damage(rng: &mut Rng, kind: Kind, r: &mut Registers, frame_len: u32, number: u32) {
     match number {
@@ -324,18 +395,35 @@ fn damage(rng: &mut Rng, kind: Kind, r: &mut Registers, frame_len: u32, number: 
                 r[RASTER_MODE] |= rng.pick(&[1, 2, 3]) << 22;
             }
         }
-        24 => match rng.below(if kind == Kind::Blt { 8 } else { 6 }) {
-            0 => r[RASTER_MODE] |= 1 << 11,
-            1 => r[RASTER_MODE] |= 1 << 12,
-            2 => r[RASTER_MODE] |= 1 << 13,
+        24 => match rng.below(if kind == Kind::Blt { 12 } else { 6 }) {
+            bit @ 0..=2 => {
+                let bit = [SI, ST, PI][bit as usize];
+                if kind == Kind::Blt && bit != PI {
+                    // on a colour source, used or not
+                    r[RASTER_MODE] &= !(SI | ST);
+                    set_source_mode(r, 0);
+                }
+                r[RASTER_MODE] |= bit;
+            }
             3 => r[CH3_MODE_STR] |= 1 << 31,
             4 => r[BASE_OFFSET] = if rng.chance(1, 4) { rng.bits() | 1 } else { 1 << rng.below(32) },
             5 => {
                 let mode = if kind == Kind::Blt { rng.pick(&[2, 3]) } else { rng.pick(&[1, 2, 3]) };
                 r[RASTER_MODE] = r[RASTER_MODE] & !0x300 | mode << 8;
             }
-            6 => r[BLT_MODE] |= rng.pick(&[1, 2, 3]) << 6,
-            _ => r[BLT_MODE] = r[BLT_MODE] & !3 | rng.pick(&[2, 3]),
+            6 | 7 => set_source_mode(r, 3),
+            8 => r[BLT_MODE] = r[BLT_MODE] & !3 | rng.pick(&[2, 3]),
+            code @ 9..=10 => {
+                // mono from frame memory with X negative
+                set_source_mode(r, code as u32 - 8);
+                r[BLT_MODE] = r[BLT_MODE] & !(X_NEGATIVE | Y_NEGATIVE | 3) | X_NEGATIVE | 1;
+                r[BLT_MODE] |= if code == 9 { rng.bits() & Y_NEGATIVE } else { 0 };
+            }
+            _ => {
+                // byte-packed from frame memory with Y negative
+                set_source_mode(r, 2);
+                r[BLT_MODE] = r[BLT_MODE] & !(X_NEGATIVE | Y_NEGATIVE | 3) | Y_NEGATIVE | 1;
+            }
         },
         25 => {
             if kind == Kind::Vector || rng.chance(1, 2) {
@@ -352,7 +440,11 @@ fn damage(rng: &mut Rng, kind: Kind, r: &mut Registers, frame_len: u32, number: 
         _ => {
             let source = number == 28;
             if source {
+                let good = model::judge(kind, r, frame_len) == 0;
                 r[BLT_MODE] |= 1;
+                if good {
+                    choose_source(rng, r, frame_len);
+                }
             }
             let register = if source { SRC_OFFSET } else { DST_OFFSET };
             set_offset(r, register, 0);
@@ -484,7 +576,7 @@ fn bad(rng: &mut Rng, registers: &Registers, frame_len: u32, number: u32) -> (Ki
 }
 
 fn some_refusal(rng: &mut Rng) -> u32 {
-    rng.pick(&[21, 23, 24, 24, 24, 25, 26, 27, 27, 27, 28, 28, 28])
+    rng.pick(&[21, 23, 24, 24, 24, 24, 24, 25, 26, 27, 27, 27, 28, 28, 28, 28])
 }
 
 fn some_frame_length(rng: &mut Rng) -> u32 {
@@ -497,22 +589,34 @@ fn some_frame_length(rng: &mut Rng) -> u32 {
     }
 }
 
-/// A fill with a random mono pattern over the whole frame, so that there is something to copy.
-fn ground(rng: &mut Rng, registers: &mut Registers, frame_len: u32) -> Vec<u32> {
-    let mut r = *registers;
-    r[RASTER_MODE] = 0x0000_01F0;
-    let width = (frame_len as f64).sqrt() as u32;
-    r[DST_OFFSET] = rng.bits() & 0xFC00_0000;
-    r[STRIDE] = width;
-    r[WID_HEIGHT] = width << 16 | frame_len / width;
-    r[PAT_COLOR_0] = rng.bits();
-    r[PAT_COLOR_1] = rng.bits();
-    r[PAT_DATA_0] = rng.bits();
-    r[PAT_DATA_1] = rng.bits();
-    r[BLT_MODE] = 0;
-    let words = emit(rng, Kind::Blt, registers, &r, true);
-    load(registers, Kind::Blt, &words);
-    words
+/// Fills with random mono patterns over the whole frame, or over the last bytes of a long one, so that there is something to copy and a
+/// font to draw from: one in bytes, and with `twice` another in words over it, up to the last byte.
+fn ground(rng: &mut Rng, registers: &mut Registers, frame_len: u32, most: u32, twice: bool) -> Vec<u32> {
+    let bytes = if frame_len <= most { frame_len } else { most / 2 };
+    let mut list = Vec::new();
+    for (depth, raster_mode) in [(1, 0x0000_01F0), (4, 0x8000_015A)] {
+        if depth == 4 && !(twice && bytes >= 4) {
+            continue;
+        }
+        let mut r = *registers;
+        r[RASTER_MODE] = raster_mode;
+        let pixels = bytes / depth;
+        let width = (pixels as f64).sqrt() as u32;
+        let height = pixels / width;
+        let first = if depth == 4 { frame_len - depth * width * height } else { frame_len - bytes };
+        r[DST_OFFSET] = rng.bits() & 0xFC00_0000 | first;
+        r[STRIDE] = depth * width;
+        r[WID_HEIGHT] = width << 16 | height;
+        r[PAT_COLOR_0] = rng.bits();
+        r[PAT_COLOR_1] = rng.bits();
+        r[PAT_DATA_0] = rng.bits();
+        r[PAT_DATA_1] = rng.bits();
+        r[BLT_MODE] = 0;
+        let words = emit(rng, Kind::Blt, registers, &r, true);
+        load(registers, Kind::Blt, &words);
+        list.extend(words);
+    }
+    list
 }
 
 // ---- Recordings -----------------------------------------------------------------------------------------------------------------
@@ -533,8 +637,8 @@ pub fn recording(rng: &mut Rng) -> Vec<u8> {
     let frame_len = some_frame_length(rng);
     let mut registers = model::ZEROS.registers;
     let mut ring: Vec<u32> = Vec::new();
-    if rng.chance(3, 4) && frame_len <= 4_000 {
-        ring.extend(ground(rng, &mut registers, frame_len));
+    if rng.chance(3, 4) {
+        ring.extend(ground(rng, &mut registers, frame_len, 4_000, ring_len >= 128));
     }
     let most = rng.pick(&[8, 30, 100, 100, 300, 300, 2_000]);
     let full = ring_len as usize - 1;
@@ -550,17 +654,25 @@ pub fn recording(rng: &mut Rng) -> Vec<u8> {
         words[0] |= 1 << 31;
         ring.extend(words);
     }
-    if ending == 1 && rng.chance(1, 4) {
+    if ending == 1 && rng.chance(2, 3) {
         // a great many pixels on few bytes, cut by the budget
         let mut r = wish(rng, Kind::Blt, &registers, frame_len, 100);
+        let mono = rng.chance(1, 2);
+        r[BLT_MODE] = r[BLT_MODE] & !3 | u32::from(mono);
+        if mono {
+            let code = if rng.chance(3, 4) { 1 } else { 2 };
+            set_source_mode(&mut r, code);
+            r[BLT_MODE] &= !(X_NEGATIVE | Y_NEGATIVE);
+        }
         let depth = model::bytes_per_pixel(&r).unwrap_or(1);
         let most_wide = (i64::from(frame_len) / depth).min(4_095);
         let (any_wide, any_high) = (rng.between(1, most_wide), rng.between(1, 4_095));
         let wide = rng.pick(&[1, most_wide, any_wide]) as u32;
         r[STRIDE] = 0;
-        r[WID_HEIGHT] = wide << 16 | rng.pick(&[4_095, any_high]) as u32;
-        r[BLT_MODE] &= !3;
-        if settle(rng, Kind::Blt, &mut r, i64::from(frame_len), false) {
+        r[WID_HEIGHT] = wide << 16 | rng.pick(&[4_095, 4_095, any_high]) as u32;
+        if settle(rng, Kind::Blt, &mut r, i64::from(frame_len), false)
+            && (!mono || settle(rng, Kind::Blt, &mut r, i64::from(frame_len), true))
+        {
             ring.extend(emit(rng, Kind::Blt, &registers, &r, true));
             registers = r;
         }
@@ -599,7 +711,7 @@ pub fn recording(rng: &mut Rng) -> Vec<u8> {
     let (state, _) = model::setup(ring_len, frame_len);
     let (state, _) = model::publish(state, position);
     let mut frame = vec![0; frame_len as usize];
-    let (_, answer) = model::run(state, &ring, &mut frame, limit, &mut |_, _, _| {});
+    let (_, answer) = model::run(state, &ring, &mut frame, limit, &mut |_, _, _, _| {});
     let budget = some_budget(rng, answer.units, if answer.word == Word::Spent { limit } else { u32::MAX }, true);
 
     let mut words = vec![ring_len, frame_len, position, budget];
@@ -737,12 +849,12 @@ impl Host<'_> {
 
     fn run(&mut self, budget: u32) {
         self.record(2, budget);
-        self.state = model::run(self.state, &self.ring, &mut self.frame, budget, &mut |_, _, _| {}).0;
+        self.state = model::run(self.state, &self.ring, &mut self.frame, budget, &mut |_, _, _, _| {}).0;
     }
 
     fn run_some(&mut self) {
         let mut frame = self.frame.clone();
-        let (_, answer) = model::run(self.state, &self.ring, &mut frame, u32::MAX, &mut |_, _, _| {});
+        let (_, answer) = model::run(self.state, &self.ring, &mut frame, u32::MAX, &mut |_, _, _, _| {});
         let budget = some_budget(self.rng, answer.units, u32::MAX, false);
         self.run(budget);
     }
@@ -936,10 +1048,8 @@ pub fn trace(rng: &mut Rng) -> Vec<u8> {
         ahead: model::ZEROS.registers,
         most,
     };
-    if frame_len <= 2_000 {
-        let words = ground(host.rng, &mut host.ahead, frame_len);
-        host.queue.extend(words.into_iter().map(Item::Word));
-    }
+    let words = ground(host.rng, &mut host.ahead, frame_len, 2_000, true);
+    host.queue.extend(words.into_iter().map(Item::Word));
     while host.records.len() < 3 * records {
         host.step();
     }

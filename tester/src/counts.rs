@@ -1,7 +1,7 @@
 //! How often each refusal, answer and kind of drawing came up. A name in the list that never came up fails the run.
 
 use crate::cases::span;
-use crate::model::{self, field, Answer, Kind, Registers, State, Word};
+use crate::model::{self, field, Answer, Kind, Registers, SourceMode, State, Word};
 use crate::model::{BASE_OFFSET, BLT_MODE, CH3_MODE_STR, DST_OFFSET, RASTER_MODE, SRC_OFFSET, VECTOR_MODE, WID_HEIGHT};
 use crate::programs::{Call, Watch};
 use std::collections::BTreeMap;
@@ -13,10 +13,15 @@ const NEEDED: &[(&str, &[&str])] = &[
         "refused for",
         &[
             "21 kind", "21 reserved bit", "21 before the command is whole", "22 at ring word 0", "22 across the end",
-            "22 before the command is whole", "23 format", "23 alpha", "24 SM", "24 SR", "24 PM of a BLT", "24 PM of a vector", "24 ST",
-            "24 SI", "24 PI", "24 channel 3", "24 BASE_OFFSET", "25 width", "25 height", "25 length", "26 axial", "26 diagonal",
-            "27 BLT one byte before", "27 BLT one byte behind", "27 vector one byte before", "27 vector one byte behind",
-            "28 one byte before", "28 one byte behind", "28 with a code that reads no source",
+            "22 before the command is whole", "23 format", "23 alpha", "24 SM 11 with a source", "24 SM 11 without a source", "24 SR",
+            "24 PM of a BLT", "24 PM of a vector", "24 SI of a vector", "24 ST of a vector", "24 SI on a colour source",
+            "24 ST on a colour source", "24 SI with SM 00 and no source", "24 ST with SM 00 and no source", "24 PI of a BLT",
+            "24 PI of a vector", "24 unpacked with X-", "24 byte-packed with X-", "24 byte-packed with Y-", "24 channel 3",
+            "24 BASE_OFFSET", "25 width", "25 height", "25 length", "26 axial", "26 diagonal", "27 BLT one byte before",
+            "27 BLT one byte behind", "27 vector one byte before", "27 vector one byte behind", "28 colour one byte before",
+            "28 colour one byte behind", "28 colour with a code that reads no source", "28 unpacked one byte before",
+            "28 unpacked one byte behind", "28 unpacked by its XLSBS alone", "28 unpacked with a code that reads no source",
+            "28 byte-packed one byte behind", "28 byte-packed by its XLSBS alone", "28 byte-packed with a code that reads no source",
         ],
     ),
     (
@@ -53,6 +58,30 @@ const NEEDED: &[(&str, &[&str])] = &[
         ],
     ),
     (
+        "mono sources",
+        &[
+            "unpacked", "unpacked plain", "unpacked inverted", "unpacked transparent", "unpacked inverted and transparent",
+            "unpacked 8 bpp", "unpacked 16 bpp", "unpacked 32 bpp", "unpacked under a solid pattern", "unpacked under a mono pattern",
+            "unpacked under a transparent pattern", "unpacked code CCh", "unpacked code F0h", "unpacked code 5Ah", "unpacked Y-",
+            "unpacked stride 0", "unpacked rows that share bytes", "unpacked rows longer by XLSBS", "unpacked font from the first byte",
+            "unpacked font from the first byte, Y-", "unpacked font to the last byte",
+            "unpacked font to the last bit", "unpacked font to the last byte, a stride past the end",
+            "unpacked font with set and clear bits", "unpacked over its font", "unpacked reads a bit that it changed",
+            "unpacked last pixel transparent", "spent inside unpacked", "byte-packed", "byte-packed plain", "byte-packed inverted",
+            "byte-packed transparent", "byte-packed inverted and transparent", "byte-packed 8 bpp", "byte-packed 16 bpp",
+            "byte-packed 32 bpp", "byte-packed under a solid pattern", "byte-packed under a mono pattern",
+            "byte-packed under a transparent pattern", "byte-packed code CCh", "byte-packed code F0h", "byte-packed code 5Ah",
+            "byte-packed rows unlike the stride", "byte-packed rows longer by XLSBS", "byte-packed font from the first byte",
+            "byte-packed font to the last byte", "byte-packed font to the last bit",
+            "byte-packed font to the last byte, by the stride past the end", "byte-packed font with set and clear bits",
+            "byte-packed over its font", "byte-packed reads a bit that it changed", "byte-packed last pixel transparent",
+            "spent inside byte-packed", "transparent by the source alone", "transparent by the pattern alone", "transparent by both",
+            "mono source of 4095", "reserved bits beside XLSBS", "unpacked, no source, X-", "unpacked, no source, Y-",
+            "byte-packed, no source, X-", "byte-packed, no source, Y-", "SI, no source, a code that reads it",
+            "ST, no source, a code that reads it",
+        ],
+    ),
+    (
         "inputs",
         &[
             "recording", "trace", "recording one byte short", "recording one byte long", "recording one word off", "recording empty",
@@ -71,6 +100,10 @@ pub struct Counts {
     opaque_origins: [u64; 64],
     transparent_origins: [u64; 64],
     portions: [u64; 18],
+    mono_codes: [u64; 256],
+    /// XLSBS with the width modulo 8, and the widths up to 17, of unpacked and of byte-packed sources
+    mono_bits: [[u64; 64]; 2],
+    mono_widths: [[u64; 17]; 2],
     pub units: u64,
     /// which kind of command wrote registers 2 and 4 last, in this case
     wrote: [Option<Kind>; 2],
@@ -93,6 +126,9 @@ impl Counts {
             opaque_origins: [0; 64],
             transparent_origins: [0; 64],
             portions: [0; 18],
+            mono_codes: [0; 256],
+            mono_bits: [[0; 64]; 2],
+            mono_widths: [[0; 17]; 2],
             units: 0,
             wrote: [None, None],
             loaded: (0, 0),
@@ -131,16 +167,21 @@ impl Counts {
             }
         }
         println!("sets, all of which must come up:");
-        let sets: [(&str, &[u64]); 5] = [
+        let sets: [(&str, &[u64]); 10] = [
             ("raster codes of BLTs", &self.blt_codes),
             ("raster codes of vectors", &self.vector_codes),
             ("origins of opaque mono patterns", &self.opaque_origins),
             ("origins of transparent mono patterns", &self.transparent_origins),
             ("portions of 0 to 16 words and more", &self.portions),
+            ("raster codes of mono sources", &self.mono_codes),
+            ("unpacked: XLSBS with width modulo 8", &self.mono_bits[0]),
+            ("byte-packed: XLSBS with width modulo 8", &self.mono_bits[1]),
+            ("unpacked: widths 1 to 17", &self.mono_widths[0]),
+            ("byte-packed: widths 1 to 17", &self.mono_widths[1]),
         ];
         for (name, set) in sets {
             let seen = set.iter().filter(|count| **count > 0).count();
-            println!("  {name}: {seen} of {}", set.len());
+            println!("  {name}: {seen} of {}, each {} times or more", set.len(), set.iter().min().unwrap_or(&0));
             if seen < set.len() {
                 missing.push(name.to_string());
             }
@@ -165,7 +206,6 @@ impl Counts {
         };
         let part = model::waiting(before) < model::command_length(kind);
         let r = model::registers_after(before, ring, kind);
-        let raster = r[RASTER_MODE];
         let blt = kind == Kind::Blt;
         let missed = |source: bool| {
             let (low, high) = span(kind, &r, source);
@@ -186,15 +226,10 @@ impl Counts {
                 self.hit_if(!format, "23 alpha");
             }
             24 => {
-                self.hit_if(blt && field(r[BLT_MODE], 7, 6) != 0, "24 SM");
-                self.hit_if(blt && field(r[BLT_MODE], 1, 0) > 1, "24 SR");
-                self.hit_if(blt && field(raster, 9, 8) > 1, "24 PM of a BLT");
-                self.hit_if(!blt && field(raster, 9, 8) != 0, "24 PM of a vector");
-                self.hit_if(field(raster, 11, 11) == 1, "24 ST");
-                self.hit_if(field(raster, 12, 12) == 1, "24 PI");
-                self.hit_if(field(raster, 13, 13) == 1, "24 SI");
-                self.hit_if(field(r[CH3_MODE_STR], 31, 31) == 1, "24 channel 3");
-                self.hit_if(r[BASE_OFFSET] != 0, "24 BASE_OFFSET");
+                // one reason and no other
+                if let [reason] = reasons_for_24(kind, &r)[..] {
+                    self.hit(reason);
+                }
             }
             25 => {
                 self.hit_if(blt && model::width(&r) == 0, "25 width");
@@ -212,16 +247,21 @@ impl Counts {
             }
             _ => {
                 let (low, high) = missed(true);
-                self.hit_if(low, "28 one byte before");
-                self.hit_if(high, "28 one byte behind");
-                // the code gives the same for both source bits
-                let code = field(raster, 7, 0);
-                self.hit_if((code >> 2) & 0x33 == code & 0x33, "28 with a code that reads no source");
+                let mode = mode_name(&r);
+                self.hit_if(low, &format!("28 {mode} one byte before"));
+                self.hit_if(high, &format!("28 {mode} one byte behind"));
+                self.hit_if(!reads_source(&r), &format!("28 {mode} with a code that reads no source"));
+                if mode != "colour" {
+                    let mut other = r;
+                    other[SRC_OFFSET] &= !(7 << 26);
+                    let accepted = model::judge(kind, &other, before.frame_len) == 0;
+                    self.hit_if(accepted, &format!("28 {mode} by its XLSBS alone"));
+                }
             }
         }
     }
 
-    fn loaded_command(&mut self, before: &State, ring: &[u32], after: &State) {
+    fn loaded_command(&mut self, before: &State, ring: &[u32], frame: &[u8], after: &State) {
         let header = ring[before.read as usize];
         let kind = match model::kind_of(header) {
             Some(kind) => kind,
@@ -268,10 +308,11 @@ impl Counts {
         }
         self.hit_if(!enabled(RASTER_MODE), "kept RASTER_MODE");
         self.hit_if(!enabled(WID_HEIGHT), if blt { "kept WID_HEIGHT" } else { "kept VEC_LEN" });
-        self.drawing(kind, &after.registers, i64::from(after.frame_len));
+        self.drawing(kind, &after.registers, frame);
     }
 
-    fn drawing(&mut self, kind: Kind, r: &Registers, frame_len: i64) {
+    fn drawing(&mut self, kind: Kind, r: &Registers, frame: &[u8]) {
+        let frame_len = frame.len() as i64;
         let raster = r[RASTER_MODE];
         let depth = model::bytes_per_pixel(r).unwrap_or(1);
         let code = field(raster, 7, 0) as usize;
@@ -327,6 +368,17 @@ impl Counts {
         self.hit_if(model::width(r) == 4_095 || model::height(r) == 4_095, "blt of 4095");
         if !model::source_selected(r) {
             self.hit("blt-no-source");
+            let mode = mode_name(r);
+            if mode != "colour" {
+                self.hit_if(model::x_negative(r), &format!("{mode}, no source, X-"));
+                self.hit_if(model::y_negative(r), &format!("{mode}, no source, Y-"));
+                self.hit_if(reads_source(r) && model::source_inversion(r), "SI, no source, a code that reads it");
+                self.hit_if(reads_source(r) && model::source_transparency(r), "ST, no source, a code that reads it");
+            }
+            return;
+        }
+        if model::source_mode(r) != SourceMode::Colour {
+            self.mono_source(r, frame);
             return;
         }
         self.hit("blt-source");
@@ -341,6 +393,150 @@ impl Counts {
             self.hit_if(apart < depth, "overlap inside a pixel");
         }
     }
+}
+
+impl Counts {
+    /// A BLT from a font in frame memory, which is shown as the BLT finds it.
+    fn mono_source(&mut self, r: &Registers, frame: &[u8]) {
+        let mode = mode_name(r);
+        let raster = r[RASTER_MODE];
+        let code = field(raster, 7, 0);
+        let depth = model::bytes_per_pixel(r).unwrap_or(1);
+        let (width, height, xlsbs) = (model::width(r), model::height(r), model::source_xlsbs(r));
+        let transparent = model::source_transparency(r);
+        let hidden = field(raster, 10, 8) == 0b101;
+        self.hit(mode);
+        let bits = match (model::source_inversion(r), transparent) {
+            (false, false) => "plain",
+            (true, false) => "inverted",
+            (false, true) => "transparent",
+            (true, true) => "inverted and transparent",
+        };
+        self.hit(&format!("{mode} {bits}"));
+        self.hit(&format!("{mode} {} bpp", 8 * depth));
+        let pattern = match (field(raster, 9, 8), hidden) {
+            (0, _) => "solid",
+            (_, false) => "mono",
+            (_, true) => "transparent",
+        };
+        self.hit(&format!("{mode} under a {pattern} pattern"));
+        self.hit_if([0xCC, 0xF0, 0x5A].contains(&code), &format!("{mode} code {code:02X}h"));
+        self.hit_if(r[SRC_OFFSET] & 0xE300_0000 != 0, "reserved bits beside XLSBS");
+        self.hit_if(width == 4_095 || height == 4_095, "mono source of 4095");
+        let slot = usize::from(mode == "byte-packed");
+        self.mono_codes[code as usize] += 1;
+        self.mono_bits[slot][(8 * xlsbs + width % 8) as usize] += 1;
+        if width <= 17 {
+            self.mono_widths[slot][width as usize - 1] += 1;
+        }
+
+        // the rows
+        let row_bytes = (xlsbs + width + 7) / 8;
+        let stride = model::source_stride(r);
+        let rows = height > 1;
+        self.hit_if(rows && row_bytes > (width + 7) / 8, &format!("{mode} rows longer by XLSBS"));
+        let back = model::y_negative(r);
+        if mode == "unpacked" {
+            self.hit_if(rows && back, "unpacked Y-");
+            self.hit_if(rows && stride == 0, "unpacked stride 0");
+            self.hit_if(rows && stride > 0 && stride < row_bytes, "unpacked rows that share bytes");
+        } else {
+            self.hit_if(rows && stride != row_bytes, "byte-packed rows unlike the stride");
+        }
+
+        // the bounds
+        let frame_len = frame.len() as i64;
+        let (first, last) = span(Kind::Blt, r, true);
+        self.hit_if(first == 0, &format!("{mode} font from the first byte"));
+        self.hit_if(first == 0 && rows && back && stride > 0, "unpacked font from the first byte, Y-");
+        if last == frame_len - 1 {
+            self.hit(&format!("{mode} font to the last byte"));
+            self.hit_if((xlsbs + width) % 8 == 0, &format!("{mode} font to the last bit"));
+            let by_stride = model::source_offset(r) + (height - 1) * stride;
+            if mode == "unpacked" {
+                self.hit_if(!back && by_stride + stride > frame_len, "unpacked font to the last byte, a stride past the end");
+            } else {
+                self.hit_if(by_stride + row_bytes > frame_len, "byte-packed font to the last byte, by the stride past the end");
+            }
+        }
+
+        // the bits, for a while
+        let (low, high) = span(Kind::Blt, r, false);
+        self.hit_if(first <= high && low <= last, &format!("{mode} over its font"));
+        let mut now = frame.to_vec();
+        let (mut set, mut clear, mut changed) = (false, false, false);
+        let (mut by_source, mut by_pattern, mut by_both) = (false, false, false);
+        let count = model::pixel_count(Kind::Blt, r);
+        for k in 0..count.min(5_000) {
+            let pixel = model::blt_pixel(r, depth, k);
+            let bit = model::stored_bit(&now, &pixel);
+            set |= bit;
+            clear |= !bit;
+            changed |= bit != model::stored_bit(frame, &pixel);
+            let gone = transparent && bit == model::source_inversion(r);
+            if transparent && hidden {
+                let covered = !model::pattern_bit(r, pixel.pattern_row, pixel.pattern_column);
+                by_source |= gone && !covered;
+                by_pattern |= !gone && covered;
+                by_both |= gone && covered;
+            }
+            self.hit_if(gone && k == count - 1, &format!("{mode} last pixel transparent"));
+            model::draw_blt_pixel(r, &mut now, k);
+        }
+        self.hit_if(set && clear, &format!("{mode} font with set and clear bits"));
+        self.hit_if(changed, &format!("{mode} reads a bit that it changed"));
+        self.hit_if(by_source, "transparent by the source alone");
+        self.hit_if(by_pattern, "transparent by the pattern alone");
+        self.hit_if(by_both, "transparent by both");
+    }
+}
+
+fn mode_name(r: &Registers) -> &'static str {
+    match model::source_mode(r) {
+        SourceMode::Colour => "colour",
+        SourceMode::Unpacked => "unpacked",
+        SourceMode::BytePacked => "byte-packed",
+        SourceMode::Undefined => "undefined",
+    }
+}
+
+/// False if the code gives the same for both source bits.
+fn reads_source(r: &Registers) -> bool {
+    let code = field(r[RASTER_MODE], 7, 0);
+    (code >> 2) & 0x33 != code & 0x33
+}
+
+/// Every reason for 24.
+fn reasons_for_24(kind: Kind, r: &Registers) -> Vec<&'static str> {
+    let raster = r[RASTER_MODE];
+    let blt = kind == Kind::Blt;
+    let pattern_mode = field(raster, 9, 8);
+    let source_select = field(r[BLT_MODE], 1, 0);
+    let mode = mode_name(r);
+    let (colour, from_frame) = (mode == "colour", source_select == 1);
+    let (inversion, transparency) = (model::source_inversion(r), model::source_transparency(r));
+    let (x, y) = (model::x_negative(r), model::y_negative(r));
+    let reasons = [
+        (blt && mode == "undefined" && source_select != 0, "24 SM 11 with a source"),
+        (blt && mode == "undefined" && source_select == 0, "24 SM 11 without a source"),
+        (blt && source_select > 1, "24 SR"),
+        (blt && pattern_mode > 1, "24 PM of a BLT"),
+        (!blt && pattern_mode != 0, "24 PM of a vector"),
+        (!blt && inversion, "24 SI of a vector"),
+        (!blt && transparency, "24 ST of a vector"),
+        (blt && colour && inversion && source_select != 0, "24 SI on a colour source"),
+        (blt && colour && transparency && source_select != 0, "24 ST on a colour source"),
+        (blt && colour && inversion && source_select == 0, "24 SI with SM 00 and no source"),
+        (blt && colour && transparency && source_select == 0, "24 ST with SM 00 and no source"),
+        (blt && field(raster, 12, 12) == 1, "24 PI of a BLT"),
+        (!blt && field(raster, 12, 12) == 1, "24 PI of a vector"),
+        (blt && from_frame && mode == "unpacked" && x, "24 unpacked with X-"),
+        (blt && from_frame && mode == "byte-packed" && x, "24 byte-packed with X-"),
+        (blt && from_frame && mode == "byte-packed" && y, "24 byte-packed with Y-"),
+        (field(r[CH3_MODE_STR], 31, 31) == 1, "24 channel 3"),
+        (r[BASE_OFFSET] != 0, "24 BASE_OFFSET"),
+    ];
+    reasons.into_iter().filter(|(holds, _)| *holds).map(|(_, name)| name).collect()
 }
 
 /// The write pointer stands inside a command: its header waits, its last word does not.
@@ -361,14 +557,14 @@ fn ends_inside(state: &State, ring: &[u32]) -> bool {
 }
 
 impl Watch for Counts {
-    fn unit(&mut self, before: &State, ring: &[u32], after: &State) {
+    fn unit(&mut self, before: &State, ring: &[u32], frame: &[u8], after: &State) {
         self.units += 1;
         if before.place.is_some() {
             self.hit_if(after.place.is_none(), "retired by last pixel");
         } else if after.stop != 0 {
             self.refused_command(before, ring, after.stop);
         } else {
-            self.loaded_command(before, ring, after);
+            self.loaded_command(before, ring, frame, after);
         }
     }
 
@@ -447,6 +643,8 @@ impl Counts {
                 match after.place {
                     Some(place) => {
                         self.hit(if place.kind == Kind::Blt { "spent inside a BLT" } else { "spent inside a vector" });
+                        let mono = model::source_selected(&after.registers) && mode_name(&after.registers) != "colour";
+                        self.hit_if(place.kind == Kind::Blt && mono, &format!("spent inside {}", mode_name(&after.registers)));
                         let left = model::pixel_count(place.kind, &after.registers) - place.drawn;
                         self.hit_if(left == 1 && used, "budget one short");
                     }

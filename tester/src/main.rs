@@ -146,15 +146,17 @@ fn keep(failed: &Path, seed: u64, number: u64, program: &str, input: &[u8], diff
     std::fs::write(failed, text).map_err(|e| format!("tester: {}: {e}", failed.display()))
 }
 
-/// Each NAME.rec of the folder must give NAME.out and, where it is kept, NAME.frame.
+/// Each NAME.rec of the folder must give NAME.out and, where it is kept, NAME.frame. Each NAME.trace must give NAME.lines, or NAME.frame's
+/// CRC-32 in its last line, or both, as they are kept.
 fn recordings(folder: &Path) -> Result<String, String> {
     let whole = |path: PathBuf| std::fs::read(&path).map_err(|e| format!("tester: {}: {e}", path.display()));
     let entries = std::fs::read_dir(folder).map_err(|e| format!("tester: {}: {e}", folder.display()))?;
-    let mut names: Vec<PathBuf> =
-        entries.flatten().map(|entry| entry.path()).filter(|path| path.extension().is_some_and(|e| e == "rec")).collect();
-    names.sort();
+    let mut all: Vec<PathBuf> = entries.flatten().map(|entry| entry.path()).collect();
+    all.sort();
+    let named = |ending: &str| all.iter().filter(|path| path.extension().is_some_and(|e| e == ending)).collect::<Vec<_>>();
+    let (names, traces) = (named("rec"), named("trace"));
     for path in &names {
-        let (lines, frame) = programs::replay(&whole(path.clone())?, &mut programs::Nobody);
+        let (lines, frame) = programs::replay(&whole(path.to_path_buf())?, &mut programs::Nobody);
         if lines.into_bytes() != whole(path.with_extension("out"))? {
             return Err(format!("tester: {}: other lines", path.display()));
         }
@@ -169,8 +171,26 @@ fn recordings(folder: &Path) -> Result<String, String> {
         };
         println!("{}: {compared}", path.display());
     }
-    if names.is_empty() {
+    for path in &traces {
+        let lines = programs::trace(&whole(path.to_path_buf())?, &mut programs::Nobody);
+        let (stored, kept) = (path.with_extension("lines"), path.with_extension("frame"));
+        let (by_lines, by_frame) = (stored.exists(), kept.exists());
+        if by_lines && lines.as_bytes() != whole(stored)? {
+            return Err(format!("tester: {}: other lines", path.display()));
+        }
+        if by_frame && lines.lines().last() != Some(&format!("frame_crc32={:08x}", programs::crc32(&whole(kept)?))) {
+            return Err(format!("tester: {}: another frame", path.display()));
+        }
+        let compared = match (by_lines, by_frame) {
+            (true, true) => "lines and frame agree",
+            (true, false) => "lines agree",
+            (false, true) => "frame agrees",
+            (false, false) => return Err(format!("tester: {}: nothing to compare with", path.display())),
+        };
+        println!("{}: {compared}", path.display());
+    }
+    if names.is_empty() && traces.is_empty() {
         return Err("tester: no recordings".to_string());
     }
-    Ok(format!("tester: {} recordings agree", names.len()))
+    Ok(format!("tester: {} recordings and {} traces agree", names.len(), traces.len()))
 }

@@ -1,7 +1,7 @@
-//! A second drawing engine, written from document 01 alone, to be read beside it.
+//! A second drawing engine, written from document 01 and request W1 of document 02, to be read beside them.
 //!
 //! It is slow on purpose: it works unit by unit, finds the bounds by going through every byte of every pixel, and does the raster
-//! operation bit by bit. The quotations are document 01's.
+//! operation bit by bit. The quotations are document 01's; W1's and the data book's (000) are named.
 
 // ---- Registers ------------------------------------------------------------------------------------------------------------------
 
@@ -209,13 +209,14 @@ pub fn restart(state: State) -> (State, Answer) {
     (state, accepted(&state))
 }
 
-/// "It does units until one of the first two holds or the budget is used." `seen` is shown the state before and after each unit.
+/// "It does units until one of the first two holds or the budget is used." `seen` is shown the state before and after each unit,
+/// with the ring and with frame memory after it.
 pub fn run(
     state: State,
     ring: &[u32],
     frame: &mut [u8],
     budget: u32,
-    seen: &mut dyn FnMut(&State, &[u32], &State),
+    seen: &mut dyn FnMut(&State, &[u32], &[u8], &State),
 ) -> (State, Answer) {
     if !fit(&state) {
         return (state, refused(3));
@@ -240,7 +241,7 @@ pub fn run(
         let before = state;
         do_unit(&mut state, ring, frame, next);
         units += 1;
-        seen(&before, ring, &state);
+        seen(&before, ring, frame, &state);
     };
     (state, Answer { word, units, room: room_of(&state) })
 }
@@ -407,24 +408,34 @@ pub fn judge(kind: Kind, registers: &Registers, frame_len: u32) -> u32 {
 
     // 24: "a source or pattern mode field with a code not carried (used by the pixels or not; BLT_MODE is judged for a BLT only)"
     let pattern_mode = field(raster, 9, 8);
+    let source_bits = source_inversion(registers) || source_transparency(registers);
     match kind {
         Kind::Blt => {
-            let source_mode = field(mode, 7, 6);
             let source_select = field(mode, 1, 0);
-            if source_mode != 0 || source_select > 1 || pattern_mode > 1 {
+            if source_select > 1 || pattern_mode > 1 {
+                return 24;
+            }
+            // W1: "keeps pattern inversion, and both source bits on vectors and colour modes, and takes mono from frame memory with
+            // X negative, or byte-packed with Y negative"
+            let refused = match source_mode(registers) {
+                SourceMode::Colour => source_bits,
+                SourceMode::Unpacked => source_selected(registers) && x_negative(registers),
+                SourceMode::BytePacked => source_selected(registers) && (x_negative(registers) || y_negative(registers)),
+                SourceMode::Undefined => true,
+            };
+            if refused {
                 return 24;
             }
         }
         Kind::Vector => {
-            if pattern_mode != 0 {
-                return 24; // "a vector with a pattern that isn't solid"
+            // "a vector with a pattern that isn't solid"
+            if pattern_mode != 0 || source_bits {
+                return 24;
             }
         }
     }
-    let source_inversion = field(raster, 13, 13) == 1;
     let pattern_inversion = field(raster, 12, 12) == 1;
-    let source_transparency = field(raster, 11, 11) == 1;
-    if source_transparency || source_inversion || pattern_inversion {
+    if pattern_inversion {
         return 24;
     }
     let channel_3 = field(registers[CH3_MODE_STR], 31, 31) == 1;
@@ -443,20 +454,22 @@ pub fn judge(kind: Kind, registers: &Registers, frame_len: u32) -> u32 {
     }
 
     // 27: "some byte of some destination pixel lies outside frame memory"
-    let inside = |first: i64| (0..depth).all(|byte| (0..i64::from(frame_len)).contains(&(first + byte)));
+    let inside = |first: i64, bytes: i64| (0..bytes).all(|byte| (0..i64::from(frame_len)).contains(&(first + byte)));
     let destinations_inside = match kind {
-        Kind::Blt => (0..pixel_count(kind, registers)).all(|k| inside(blt_pixel(registers, depth, k).destination)),
-        Kind::Vector => vector_pixels(registers, depth).all(|pixel| inside(pixel.position)),
+        Kind::Blt => (0..pixel_count(kind, registers)).all(|k| inside(blt_pixel(registers, depth, k).destination, depth)),
+        Kind::Vector => vector_pixels(registers, depth).all(|pixel| inside(pixel.position, depth)),
     };
     if !destinations_inside {
         return 27;
     }
 
-    // 28: "a BLT's source select is frame memory, whatever the raster code, and some byte of some source pixel lies outside"
-    if kind == Kind::Blt
-        && source_selected(registers)
-        && !(0..pixel_count(kind, registers)).all(|k| inside(blt_pixel(registers, depth, k).source))
-    {
+    // 28: "a BLT's source select is frame memory, whatever the raster code, and some byte of some source pixel lies outside"; W1: "28
+    // is judged on the source bytes that hold the needed bits"
+    let source_inside = |k: i64| {
+        let pixel = blt_pixel(registers, depth, k);
+        inside(pixel.source, pixel.source_bytes)
+    };
+    if kind == Kind::Blt && source_selected(registers) && !(0..pixel_count(kind, registers)).all(source_inside) {
         return 28;
     }
     0
@@ -482,12 +495,53 @@ pub fn source_selected(registers: &Registers) -> bool {
     field(registers[BLT_MODE], 1, 0) == 1
 }
 
+/// BLT_MODE's SM (000, 6.4.2.13).
+#[derive(Clone, Copy, PartialEq, Eq, Debug)]
+pub enum SourceMode {
+    Colour,
+    Unpacked,
+    BytePacked,
+    Undefined,
+}
+
+pub fn source_mode(registers: &Registers) -> SourceMode {
+    match field(registers[BLT_MODE], 7, 6) {
+        0b00 => SourceMode::Colour,
+        0b01 => SourceMode::Unpacked,
+        0b10 => SourceMode::BytePacked,
+        _ => SourceMode::Undefined,
+    }
+}
+
+/// RASTER_MODE's SI
+pub fn source_inversion(registers: &Registers) -> bool {
+    field(registers[RASTER_MODE], 13, 13) == 1
+}
+
+/// RASTER_MODE's ST
+pub fn source_transparency(registers: &Registers) -> bool {
+    field(registers[RASTER_MODE], 11, 11) == 1
+}
+
+pub fn x_negative(registers: &Registers) -> bool {
+    field(registers[BLT_MODE], 9, 9) == 1
+}
+
+pub fn y_negative(registers: &Registers) -> bool {
+    field(registers[BLT_MODE], 8, 8) == 1
+}
+
 pub fn destination_offset(registers: &Registers) -> i64 {
     i64::from(field(registers[DST_OFFSET], 23, 0))
 }
 
 pub fn source_offset(registers: &Registers) -> i64 {
     i64::from(field(registers[SRC_OFFSET], 23, 0))
+}
+
+/// SRC_OFFSET's XLSBS: "Offset within byte to first monochrome pixel" (000, 6.4.2.2)
+pub fn source_xlsbs(registers: &Registers) -> i64 {
+    i64::from(field(registers[SRC_OFFSET], 28, 26))
 }
 
 pub fn destination_stride(registers: &Registers) -> i64 {
@@ -515,24 +569,48 @@ pub fn initial_error(registers: &Registers) -> i64 {
 
 pub struct BltPixel {
     pub destination: i64,
+    /// the first byte of the source pixel, or the byte that holds the bit of a mono source
     pub source: i64,
+    /// how many bytes hold the source
+    pub source_bytes: i64,
+    /// of a mono source, the number of its bit in that byte
+    pub source_bit: i64,
     pub pattern_row: i64,
     pub pattern_column: i64,
 }
 
 /// Pixel number k, "Rows are drawn in order, columns in order within a row." "Positions are signed whole numbers, never reduced."
 pub fn blt_pixel(registers: &Registers, depth: i64, k: i64) -> BltPixel {
-    let mode = registers[BLT_MODE];
     let i = k % width(registers);
     let j = k / width(registers);
     // "i pixels further, or back if X is negative, and j destination strides further, or back if Y is negative"
-    let steps_x = if field(mode, 9, 9) == 1 { -i } else { i };
-    let steps_y = if field(mode, 8, 8) == 1 { -j } else { j };
+    let steps_x = if x_negative(registers) { -i } else { i };
+    let steps_y = if y_negative(registers) { -j } else { j };
     let offset_register = registers[DST_OFFSET];
+
+    // "Source pixels go the same way with their own offset and stride." 000, 6.4.2.4, for mono too: "Adding the GP_STRIDE to the
+    // OFFSET gives the byte address for the first pixel of the next line of a BLT."
+    let by_stride = source_offset(registers) + steps_y * source_stride(registers);
+    // 000, 6.3.8.2, of byte-packed rows: "after WIDTH pixels have been transferred, skips the remaining bits in the byte plus the number
+    // specified in XLSBs, and begins the next line at that location"
+    let row_bits = source_xlsbs(registers) + width(registers);
+    let packed = source_offset(registers) + j * ((row_bits + 7) / 8);
+    // 000, 6.4.2.4: "the XLSBs [...] are used to index into the first byte of every line"; 6.3.8.1: "the left-most pixels are in the
+    // most significant bits of the byte"
+    let from_row = source_xlsbs(registers) + i;
+    let source_bit = 7 - from_row % 8;
+    let (source, source_bytes) = match source_mode(registers) {
+        // 11 is refused
+        SourceMode::Colour | SourceMode::Undefined => (by_stride + steps_x * depth, depth),
+        SourceMode::Unpacked => (by_stride + from_row / 8, 1),
+        SourceMode::BytePacked => (packed + from_row / 8, 1),
+    };
+
     BltPixel {
         destination: destination_offset(registers) + steps_x * depth + steps_y * destination_stride(registers),
-        // "Source pixels go the same way with their own offset and stride."
-        source: source_offset(registers) + steps_x * depth + steps_y * source_stride(registers),
+        source,
+        source_bytes,
+        source_bit,
         // "the offset register's Y and X low bits plus the signed steps from the first pixel, modulo 8"
         pattern_row: (i64::from(field(offset_register, 31, 29)) + steps_y).rem_euclid(8),
         pattern_column: (i64::from(field(offset_register, 28, 26)) + steps_x).rem_euclid(8),
@@ -546,16 +624,28 @@ pub fn pattern_bit(registers: &Registers, row: i64, column: i64) -> bool {
     (row_byte >> (7 - column)) & 1 == 1
 }
 
+/// The bit of a mono source, as memory then stands.
+pub fn stored_bit(frame: &[u8], pixel: &BltPixel) -> bool {
+    (frame[pixel.source as usize] >> pixel.source_bit) & 1 == 1
+}
+
 /// "Each pixel reads source, pattern and destination as memory then stands, and writes the destination."
-fn draw_blt_pixel(registers: &Registers, frame: &mut [u8], k: i64) {
+pub fn draw_blt_pixel(registers: &Registers, frame: &mut [u8], k: i64) {
     let raster = registers[RASTER_MODE];
     let depth = bytes_per_pixel(registers).unwrap_or(0);
     let pixel = blt_pixel(registers, depth, k);
-    // "With no source selected the source value is SRC_COLOR_FG."
-    let source = if source_selected(registers) {
+    let source = if !source_selected(registers) {
+        // "With no source selected the source value is SRC_COLOR_FG."; W1: "inversion and transparency do nothing"
+        registers[SRC_COLOR_FG]
+    } else if source_mode(registers) == SourceMode::Colour {
         read_pixel(frame, pixel.source, depth)
     } else {
-        registers[SRC_COLOR_FG]
+        let set = stored_bit(frame, &pixel) != source_inversion(registers);
+        if source_transparency(registers) && !set {
+            return; // W1: "A transparent pixel (bit clear after inversion) writes nothing and costs its unit."
+        }
+        // 000, 6.3.8.3: a clear bit gives GP_SRC_COLOR_BG, a set one GP_SRC_COLOR_FG
+        if set { registers[SRC_COLOR_FG] } else { registers[SRC_COLOR_BG] }
     };
     let mono = field(raster, 9, 8) == 1;
     let transparent = field(raster, 10, 10) == 1;

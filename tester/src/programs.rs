@@ -4,7 +4,8 @@ use crate::model::{self, Answer, Kind, State, Word};
 
 /// Told of what happens, so that the tester can count it.
 pub trait Watch {
-    fn unit(&mut self, before: &State, ring: &[u32], after: &State);
+    /// frame memory as it is after the unit
+    fn unit(&mut self, before: &State, ring: &[u32], frame: &[u8], after: &State);
     fn call(&mut self, call: Call, before: &State, ring: &[u32], answer: &Answer, after: &State);
     fn store(&mut self, state: &State, position: u32);
 }
@@ -21,7 +22,7 @@ pub enum Call {
 pub struct Nobody;
 
 impl Watch for Nobody {
-    fn unit(&mut self, _: &State, _: &[u32], _: &State) {}
+    fn unit(&mut self, _: &State, _: &[u32], _: &[u8], _: &State) {}
     fn call(&mut self, _: Call, _: &State, _: &[u32], _: &Answer, _: &State) {}
     fn store(&mut self, _: &State, _: u32) {}
 }
@@ -61,8 +62,8 @@ pub fn replay(input: &[u8], watch: &mut dyn Watch) -> (String, Vec<u8>) {
         return (replay_lines(&state, &answer), frame);
     }
     let before = state;
-    let (state, answer) =
-        model::run(before, &ring, &mut frame, budget, &mut |before, ring, after| watch.unit(before, ring, after));
+    let mut seen = |before: &State, ring: &[u32], frame: &[u8], after: &State| watch.unit(before, ring, frame, after);
+    let (state, answer) = model::run(before, &ring, &mut frame, budget, &mut seen);
     watch.call(Call::Run(budget), &before, &ring, &answer, &state);
     (replay_lines(&state, &answer), frame)
 }
@@ -116,7 +117,8 @@ pub fn trace(input: &[u8], watch: &mut dyn Watch) -> String {
             }
             1 => ("publish", Call::Publish(a), model::publish(before, a)),
             2 => {
-                let mut seen = |before: &State, ring: &[u32], after: &State| watch.unit(before, ring, after);
+                let mut seen =
+                    |before: &State, ring: &[u32], frame: &[u8], after: &State| watch.unit(before, ring, frame, after);
                 ("run", Call::Run(a), model::run(before, &ring, &mut frame, a, &mut seen))
             }
             3 => ("room", Call::Room, model::room(before)),

@@ -1,4 +1,4 @@
-//! Document 01's shop cases and its replay example, asked of the model. Run by `rustc --test`.
+//! Document 01's shop cases and its replay example, and cases of request W1, asked of the model. Run by `rustc --test`.
 
 use crate::model::*;
 use crate::programs::{crc32, replay, trace, Nobody};
@@ -32,7 +32,7 @@ fn state_at(read: u32, write: u32, frame_len: u32) -> State {
 }
 
 fn quiet_run(state: State, ring: &[u32], frame: &mut [u8], budget: u32) -> (State, Answer) {
-    run(state, ring, frame, budget, &mut |_, _, _| {})
+    run(state, ring, frame, budget, &mut |_, _, _, _| {})
 }
 
 #[test]
@@ -87,6 +87,190 @@ fn pattern_rows() {
         assert_eq!(set, wanted);
     }
 }
+
+// ---- W1: mono sources -----------------------------------------------------------------------------------------------------------
+
+const FG: u32 = 0x5A;
+const BG: u32 = 0x3C;
+const SI: u32 = 1 << 13;
+const PI: u32 = 1 << 12;
+const ST: u32 = 1 << 11;
+const X_NEGATIVE: u32 = 1 << 9;
+const Y_NEGATIVE: u32 = 1 << 8;
+const UNPACKED: u32 = 1 << 6;
+const BYTE_PACKED: u32 = 2 << 6;
+const FRAME_MEMORY: u32 = 1;
+
+/// Registers of a BLT at 8 bpp, of code CCh unless another is named.
+fn font_registers(values: &[(usize, u32)]) -> Registers {
+    let mut registers = ZEROS.registers;
+    let usual = [(RASTER_MODE, 0xCC), (WID_HEIGHT, 8 << 16 | 1), (SRC_COLOR_FG, FG), (SRC_COLOR_BG, BG)];
+    for (register, value) in usual.iter().chain(values) {
+        registers[*register] = *value;
+    }
+    registers
+}
+
+/// Draws it: every pixel costs its unit and the last one retires it, transparent or not.
+fn draw_font(registers: Registers, frame: &mut [u8]) {
+    let state = State { registers, place: Some(Place { kind: Kind::Blt, drawn: 0 }), ..state_at(0, 0, frame.len() as u32) };
+    let count = pixel_count(Kind::Blt, &registers) as u32;
+    let (state, answer) = quiet_run(state, &[0; 64], frame, count - 1);
+    assert_eq!((answer.word, answer.units, state.completion), (Word::Spent, count - 1, 0));
+    let (state, answer) = quiet_run(state, &[0; 64], frame, u32::MAX);
+    assert_eq!((answer.word, answer.units, state.completion, state.place), (Word::Waiting, 1, 1, None));
+}
+
+/// 000's examples, OFFSET 0, XLSBS 2, WIDTH 8: a bit alone in memory sets the pixel that the table names, and no other.
+#[test]
+fn tables_6_23_and_6_24() {
+    // six rows, each two bytes after the one before, whatever the stride; three rows, each in a DWORD of its own
+    for (mode, stride, rows, row_bytes) in [(BYTE_PACKED, 0, 6, 2), (BYTE_PACKED, 65_535, 6, 2), (UNPACKED, 4, 3, 4)] {
+        for row in 0..rows {
+            for column in 0..8 {
+                // behind the skipped bits 7 and 6 come pixels 0 to 5; pixels 6 and 7 are bits 7 and 6 of the next byte
+                let (byte, bit) = [(0, 5), (0, 4), (0, 3), (0, 2), (0, 1), (0, 0), (1, 7), (1, 6)][column];
+                let mut frame = vec![0; 12 + 8 * rows];
+                frame[row * row_bytes + byte] = 1 << bit;
+                let registers = font_registers(&[
+                    (DST_OFFSET, 12),
+                    (SRC_OFFSET, 2 << 26),
+                    (STRIDE, stride << 16 | 8),
+                    (WID_HEIGHT, 8 << 16 | rows as u32),
+                    (BLT_MODE, mode | FRAME_MEMORY),
+                ]);
+                draw_font(registers, &mut frame);
+                let mut wanted = vec![BG as u8; 8 * rows];
+                wanted[8 * row + column] = FG as u8;
+                assert_eq!(frame[12..], wanted, "mode {mode:x}, row {row}, column {column}");
+            }
+        }
+    }
+}
+
+#[test]
+fn inversion_and_transparency() {
+    let (f, b, d) = (FG as u8, BG as u8, 0x11);
+    for mode in [UNPACKED, BYTE_PACKED] {
+        for (bits, wanted) in [
+            (0, [f, b, f, f, b, f, b, b]),
+            (SI, [b, f, b, b, f, b, f, f]),
+            (ST, [f, d, f, f, d, f, d, d]),
+            (SI | ST, [d, f, d, d, f, d, f, f]),
+        ] {
+            let mut frame = [d; 9];
+            frame[0] = 0b1011_0100;
+            draw_font(font_registers(&[(RASTER_MODE, bits | 0xCC), (DST_OFFSET, 1), (BLT_MODE, mode | FRAME_MEMORY)]), &mut frame);
+            assert_eq!(frame[1..], wanted);
+        }
+        // transparent by its source or by its pattern, whatever the code: 00h writes zeros
+        let values = [(RASTER_MODE, ST | 0x500), (DST_OFFSET, 1), (PAT_DATA_0, 0b1111_0000), (BLT_MODE, mode | FRAME_MEMORY)];
+        let mut frame = [d; 9];
+        frame[0] = 0b1011_0100;
+        draw_font(font_registers(&values), &mut frame);
+        assert_eq!(frame[1..], [0, d, 0, 0, d, d, d, d]);
+        // nothing written at all
+        let mut frame = [0; 9];
+        draw_font(font_registers(&[(RASTER_MODE, ST | 0xFF), (DST_OFFSET, 1), (BLT_MODE, mode | FRAME_MEMORY)]), &mut frame);
+        assert_eq!(frame, [0; 9]);
+        // with no source selected both do nothing
+        let values = [(RASTER_MODE, SI | ST | 0xCC), (DST_OFFSET, 8), (BLT_MODE, mode | X_NEGATIVE | Y_NEGATIVE)];
+        let mut frame = [0; 9];
+        draw_font(font_registers(&values), &mut frame);
+        assert_eq!(frame, [0, f, f, f, f, f, f, f, f]);
+    }
+}
+
+#[test]
+fn a_font_drawn_over() {
+    // pixel 0 writes the font's only byte: 10h, of which pixel 3 finds bit 4 set
+    let mut frame = [0x80, 0, 0, 0];
+    let values = [(WID_HEIGHT, 4 << 16 | 1), (SRC_COLOR_FG, 0x10), (BLT_MODE, UNPACKED | FRAME_MEMORY)];
+    draw_font(font_registers(&values), &mut frame);
+    assert_eq!(frame, [0x10, BG as u8, BG as u8, 0x10]);
+}
+
+#[test]
+fn unpacked_rows_go_back() {
+    let mut frame = [0x40, 0, 0x80, 1, 1, 1, 1];
+    let values = [
+        (DST_OFFSET, 5),
+        (SRC_OFFSET, 2),
+        (STRIDE, 2 << 16 | 2),
+        (WID_HEIGHT, 2 << 16 | 2),
+        (BLT_MODE, UNPACKED | Y_NEGATIVE | FRAME_MEMORY),
+    ];
+    draw_font(font_registers(&values), &mut frame);
+    assert_eq!(frame, [0x40, 0, 0x80, BG as u8, FG as u8, FG as u8, BG as u8]);
+}
+
+#[test]
+fn mono_and_24() {
+    let number = |kind: Kind, bits: u32, mode: u32| {
+        judge(kind, &font_registers(&[(RASTER_MODE, bits | 0xCC), (DST_OFFSET, 8), (BLT_MODE, mode)]), 16)
+    };
+    for select in [0, FRAME_MEMORY] {
+        assert_eq!(number(Kind::Blt, 0, 3 << 6 | select), 24);
+        for mode in [0, UNPACKED, BYTE_PACKED] {
+            assert_eq!(number(Kind::Blt, 0, mode | select), 0);
+            assert_eq!(number(Kind::Blt, PI, mode | select), 24);
+            for bits in [SI, ST, SI | ST] {
+                assert_eq!(number(Kind::Blt, bits, mode | select), if mode == 0 { 24 } else { 0 });
+            }
+        }
+    }
+    for direction in [X_NEGATIVE, Y_NEGATIVE, X_NEGATIVE | Y_NEGATIVE] {
+        let x = direction != Y_NEGATIVE;
+        assert_eq!(number(Kind::Blt, 0, UNPACKED | direction), 0);
+        assert_eq!(number(Kind::Blt, 0, BYTE_PACKED | direction), 0);
+        assert_eq!(number(Kind::Blt, 0, UNPACKED | direction | FRAME_MEMORY), if x { 24 } else { 0 });
+        assert_eq!(number(Kind::Blt, 0, BYTE_PACKED | direction | FRAME_MEMORY), 24);
+    }
+    // BLT_MODE is not judged for a vector
+    for (bits, wanted) in [(0, 0), (SI, 24), (ST, 24), (PI, 24)] {
+        assert_eq!(number(Kind::Vector, bits, 3 << 6), wanted);
+    }
+}
+
+#[test]
+fn mono_and_28() {
+    let frame_len = 16;
+    // mode, SRC_OFFSET, XLSBS, source stride, width, height; inside, or outside by one byte
+    for (mode, offset, xlsbs, stride, width, height, wanted) in [
+        (BYTE_PACKED, 14, 2, 0, 8, 1, 0),
+        (BYTE_PACKED, 15, 2, 0, 8, 1, 28),
+        (BYTE_PACKED, 15, 2, 0, 6, 1, 0),
+        (BYTE_PACKED, 15, 2, 0, 7, 1, 28),
+        (BYTE_PACKED, 10, 2, 65_535, 8, 3, 0),
+        (BYTE_PACKED, 11, 2, 0, 8, 3, 28),
+        (UNPACKED, 15, 7, 0, 1, 9, 0),
+        (UNPACKED, 15, 7, 0, 2, 1, 28),
+        (UNPACKED, 7, 0, 4, 8, 3, 0),
+        (UNPACKED, 8, 0, 4, 8, 3, 28),
+        (UNPACKED | Y_NEGATIVE, 8, 0, 4, 8, 3, 0),
+        (UNPACKED | Y_NEGATIVE, 7, 0, 4, 8, 3, 28),
+        (UNPACKED | Y_NEGATIVE, 15, 0, 4, 8, 3, 0),
+        (UNPACKED | Y_NEGATIVE, 15, 0, 4, 9, 3, 28),
+    ] {
+        // F0h does not read the source; at four bytes a pixel a source pixel still is a bit
+        for raster in [0xCC, 0xF0, SI | ST | 0xF0] {
+            let mut registers = font_registers(&[
+                (RASTER_MODE, raster),
+                (SRC_OFFSET, xlsbs << 26 | offset),
+                (STRIDE, stride << 16),
+                (WID_HEIGHT, width << 16 | height),
+                (BLT_MODE, mode | FRAME_MEMORY),
+            ]);
+            assert_eq!(judge(Kind::Blt, &registers, frame_len), wanted);
+            let state = State { registers, place: Some(Place { kind: Kind::Blt, drawn: 0 }), ..state_at(0, 0, frame_len) };
+            assert_eq!(fit(&state), wanted == 0);
+            registers[RASTER_MODE] |= 8 << 28;
+            assert_eq!(judge(Kind::Blt, &registers, frame_len), if width > 4 { 27 } else { wanted });
+        }
+    }
+}
+
+// ---- The ring and the programs --------------------------------------------------------------------------------------------------
 
 #[test]
 fn ring_of_64() {
