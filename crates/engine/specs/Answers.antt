@@ -1,5 +1,5 @@
 -- What the calls' inner functions are handed.
-use Prim.Native.Nat.{ℕ, _<_}
+use Prim.Native.Nat.{_<_}
 use Rattle.model.specs.declared.State.{State}
 
 -- a state whose pointers lie in its ring

@@ -1,8 +1,6 @@
 // The five calls: setup, publish, run, restart and asking for room. Each answers, for every input whatever, what the
 // definition of its name in the crate `model` says.
 ghost use mathlib.Core.Path.{_≡_};
-ghost use Prim.Native.Nat.{_<_};
-ghost use lib.ListN.{length};
 ghost use Rattle.model.specs.Choice.{_=?_, if_then_else_};
 ghost use Rattle.model.specs.Refusals.{first};
 ghost use Rattle.model.specs.Calls.{publishRules, runRules, restartRules, roomRules, freshState, accepted, refused, setup, publish, restart, askRoom, run, runFrame};

@@ -1,6 +1,5 @@
 // Refusals 23 to 28 of what a command draws, on the registers as they would be after loading.
 ghost use mathlib.Core.Path.{_≡_};
-ghost use mathlib.Core.Bool.{Bool};
 ghost use Rattle.model.specs.BltPixel.{sourceOutside};
 ghost use Rattle.model.specs.Judging.{refusedFormat, row23, row24Both, sourceBits, monoBack, row24Source, row24, row25, judge};
 ghost use Rattle.model.specs.declared.Primitive.the-variants.{Blt as BltPrimitive, Vector as VectorPrimitive};

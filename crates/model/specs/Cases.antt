@@ -29,7 +29,6 @@ use Rattle.model.specs.declared.State.{State}
 use Rattle.model.specs.declared.Answer.{Answer}
 use Rattle.model.specs.declared.Extent.{Extent}
 use Rattle.model.specs.declared.Extent.the-variants.{Inside, Outside}
-use Rattle.model.specs.declared.Primitive.{Primitive}
 use Rattle.model.specs.declared.Primitive.the-variants.{Blt, Vector}
 use Rattle.model.specs.declared.Place.{Place}
 use Rattle.model.specs.declared.Place.the-variants.{Idle, Drawing}

@@ -1,7 +1,7 @@
 -- One unit of work, and n of them (document 01, Units, and how a run ends).
 use Prim.Native.Nat.{ℕ, zero, suc, _+_}
 use mathlib.Core.Bool.{Bool, true, false, _&&_, _||_}
-use mathlib.Core.List.{List, [], _∷_, _++_}
+use mathlib.Core.List.{List, [], _++_}
 use lib.ListN.{getD}
 use Rattle.model.specs.Choice.{_≤?_, _=?_, if_then_else_}
 use Rattle.model.specs.Refusals.{Rule, first}

@@ -13,7 +13,7 @@ use Rattle.model.specs.declared.Answer.{Answer}
 use Rattle.text.specs.Buffers.{Holds, holds}
 use Rattle.recording.specs.Parts.{part-length, take-zeros}
 use Rattle.recording.specs.Replay.{ringLimit, frameLimit, badLengths, isRefused, replay, replayFrame}
-use Rattle.recording.specs.Recording.{fileWords, length-words, headOf, ringOf, badRecording, Loaded, zeroed, replayed, replayedFrame, made, frameSize, frameBytes, good}
+use Rattle.recording.specs.Recording.{fileWords, length-words, headOf, ringOf, badRecording, Loaded, replayed, replayedFrame, made, frameSize, frameBytes, good}
 use Rattle.recording.specs.declared.Head.{Head}
 
 -- too short for its first words

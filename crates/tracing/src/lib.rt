@@ -1,10 +1,8 @@
 // Traces: setup, and one record after the other, each with its line.
 ghost use mathlib.Core.Path.{_≡_};
-ghost use mathlib.Core.List.{[]};
-ghost use Prim.Native.Nat.{_+_, _≤_};
-ghost use lib.ListN.{length, set};
+ghost use Prim.Native.Nat.{_≤_};
+ghost use lib.ListN.{length};
 ghost use Rattle.text.specs.Buffers.{Holds, bufferLength};
-ghost use Rattle.recording.specs.Recording.{fileWord};
 ghost use Rattle.tracing.specs.Trace.{asked, askedFrame, badBegin, badRecord, held, lastLine, callStep, stepOf, beginOf, Steps, Begins};
 use model::Answer;
 use model::State;

@@ -1,6 +1,6 @@
 -- The load of a whole command, by what it draws.
 use Prim.Native.Nat.{ℕ}
-use mathlib.Core.Path.{_≡_, refl, sym, _∙_}
+use mathlib.Core.Path.{_≡_, sym, _∙_}
 use mathlib.Core.List.{List}
 use borrow.Author.Tests.{eq-eqb, ne-eqb}
 use Rattle.model.specs.Refusals.{first}
@@ -8,7 +8,6 @@ use Rattle.model.specs.Completion.{retired}
 use Rattle.model.specs.Judging.{judge}
 use Rattle.model.specs.Unit.{loadedAt, commandRefusal, stopped, loadedCore}
 use Rattle.model.specs.declared.Core.{Core}
-use Rattle.model.specs.declared.Drawn.{Drawn}
 use Rattle.model.specs.declared.Drawn.the-variants.{Nothing, Draws}
 use Rattle.model.specs.declared.Place.the-variants.{Idle, Drawing}
 use Rattle.model.specs.declared.Primitive.{Primitive}

@@ -7,7 +7,7 @@ use mathlib.Core.Logic.{_⊎_, inl, inr, ⊎-elim}
 use native.Mathlib.Omega.{arith}
 use native.Mathlib.Numerals.{add-one}
 use borrow.Author.Tests.{lt-ltb, le-ltb, le-leb, lt-leb, ltb-true, ltb-false}
-use Rattle.model.specs.Choice.{_<?_, if_then_else_, true-or-false, not-both}
+use Rattle.model.specs.Choice.{_<?_, true-or-false, not-both}
 use Rattle.model.specs.Bounds.{byteOutside, some, outside, firstByte, least, greatest, extent}
 use Rattle.model.specs.Formats.{Depth}
 use Rattle.model.specs.Pixel.{readPixel, storePixel}

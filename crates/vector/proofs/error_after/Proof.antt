@@ -1,5 +1,5 @@
 -- The sums of the first k steps fit, and what the diagonal ones take off is part of what the axial term adds.
-use Prim.Native.Nat.{ℕ, _-_, _*_, _≤_}
+use Prim.Native.Nat.{_-_, _*_, _≤_}
 use native.Mathlib.Omega.{arith}
 use borrow.Author.Needs.{needs}
 use Rattle.laws.specs.ClosedForm.{errorAt, Counted, counted, product-most}
