@@ -1,6 +1,6 @@
 -- The marked shop cases of document 01, shown from the definitions in one table, with further cases that pin the definitions
 -- where the marked ones leave room, and with the words of a released display driver.
-use Prim.Native.Nat.{ℕ, _+_, _-_, _*_, _/_, _%_, _^_}
+use Prim.Native.Nat.{ℕ, zero, suc, _+_, _-_, _*_, _/_, _%_, _^_}
 use mathlib.Core.Path.{_≡_, refl}
 use mathlib.Core.Bool.{Bool, true, false}
 use mathlib.Core.List.{List, [], _∷_, _++_, map}
@@ -152,12 +152,20 @@ rowWith register values = map (λ value. judge Blt (row but register is value) 1
 abbrev pub lineWith : ℕ → List ℕ → List ℕ
 lineWith register values = map (λ value. judge Vector (line but register is value) 8) values
 
--- 3 by 2 pixels of two bytes, destination stride 16, in so many bytes of frame memory: the number that judges them, and their
--- extent. BLT_MODE 0 is right and down, 200h left, 100h up
-abbrev pub bounds : (offset mode framelength : ℕ) → ℕ × Extent
-bounds offset mode framelength =
-    let blt = copy 0 offset mode but RASTER-MODE is 0x600000F0 but STRIDE is 16 but WID-HEIGHT is 0x00030002 in
+-- 3 by 2 pixels by code F0h, both strides 16. RASTER_MODE 600000F0h has two bytes a pixel, 800000F0h four; BLT_MODE 0 is right and
+-- down, 200h left, 100h up
+abbrev pub block : (raster src dst mode : ℕ) → List ℕ
+block raster src dst mode =
+    copy src dst mode but RASTER-MODE is raster but STRIDE is 0x00100010 but WID-HEIGHT is 0x00030002
+
+-- the number that judges them in so many bytes of frame memory, and their extent
+abbrev pub boundsOf : (raster offset mode framelength : ℕ) → ℕ × Extent
+boundsOf raster offset mode framelength =
+    let blt = block raster 0 offset mode in
     (judge Blt blt framelength, rectangleExtent framelength (bltOf blt .destination))
+
+abbrev pub bounds : (offset mode framelength : ℕ) → ℕ × Extent
+bounds = boundsOf 0x600000F0
 
 -- the same of a vector with terms 1 and -3, initial -2, length 4, X positive, Y negative
 abbrev pub vectorBounds : ℕ → ℕ × Extent
@@ -171,9 +179,9 @@ pub record Extremes : Type 0 where
   pub row-fits : rowWith DST-OFFSET (12 ∷ 13 ∷ 0xFF00000C ∷ []) ≡ 0 ∷ 27 ∷ 0 ∷ []
   -- the four directions: frame memory that just holds the pixels, one byte less, and below byte 0
   pub right-down : map (bounds 40 0x000) (62 ∷ 61 ∷ []) ≡ (0, Inside 40 61) ∷ (27, Outside) ∷ []
-  pub left-down : map (bounds 40 0x200) (58 ∷ 57 ∷ []) ≡ (0, Inside 36 57) ∷ (27, Outside) ∷ []
+  pub left-down : map (bounds 40 0x200) (57 ∷ 56 ∷ []) ≡ (0, Inside 35 56) ∷ (27, Outside) ∷ []
   pub right-up : bounds 15 0x100 62 ∷ map (bounds 40 0x100) (46 ∷ 45 ∷ []) ≡ (27, Outside) ∷ (0, Inside 24 45) ∷ (27, Outside) ∷ []
-  pub left-up : bounds 19 0x300 62 ∷ map (bounds 20 0x300) (22 ∷ 21 ∷ []) ≡ (27, Outside) ∷ (0, Inside 0 21) ∷ (27, Outside) ∷ []
+  pub left-up : bounds 20 0x300 62 ∷ map (bounds 21 0x300) (22 ∷ 21 ∷ []) ≡ (27, Outside) ∷ (0, Inside 0 21) ∷ (27, Outside) ∷ []
   -- 28 only where the source is selected, 27 before it
   pub source-bounds :
       map (λ b. judge Blt b 16) (copy 13 0 1 ∷ copy 13 0 0 ∷ copy 13 13 1 ∷ copy 0xFF00000C 0 1 ∷ []) ≡ 28 ∷ 0 ∷ 27 ∷ 0 ∷ []
@@ -284,7 +292,7 @@ pub record Pixels : Type 0 where
       ≡ 1 ∷ 2 ∷ 3 ∷ 4 ∷ 1 ∷ 2 ∷ 4 ∷ 1 ∷ []
   -- two bytes a pixel, 2 pixels copied one byte on with X negative; four bytes a pixel, one pixel at byte 1 by code 5Ah
   pub two-bytes :
-      drawn (copy 2 3 0x201 but RASTER-MODE is 0x600000CC but WID-HEIGHT is 0x00020001) (1 ∷ 2 ∷ 3 ∷ 4 ∷ 5 ∷ []) ≡ 1 ∷ 1 ∷ 2 ∷ 3 ∷ 4 ∷ []
+      drawn (copy 3 4 0x201 but RASTER-MODE is 0x600000CC but WID-HEIGHT is 0x00020001) (1 ∷ 2 ∷ 3 ∷ 4 ∷ 5 ∷ []) ≡ 1 ∷ 1 ∷ 2 ∷ 3 ∷ 4 ∷ []
   pub four-bytes :
       drawn (copy 0 1 0x000 but RASTER-MODE is 0x8000005A but WID-HEIGHT is 0x00010001 but PAT-COLOR-0 is 0x01020304) (replicate 6 5)
       ≡ 5 ∷ 1 ∷ 6 ∷ 7 ∷ 4 ∷ 5 ∷ []
@@ -299,6 +307,67 @@ pub record Pixels : Type 0 where
   pub pattern-left-down : patterned 2 0x200 ≡ 0 ∷ 1 ∷ 1 ∷ 0 ∷ 1 ∷ 0 ∷ []
   pub pattern-right-up : patterned 3 0x100 ≡ 1 ∷ 1 ∷ 0 ∷ 1 ∷ 0 ∷ 0 ∷ []
   pub pattern-left-up : patterned 5 0x300 ≡ 1 ∷ 0 ∷ 1 ∷ 0 ∷ 1 ∷ 1 ∷ []
+
+-- bytes 1 to n
+abbrev pub upTo : ℕ → List ℕ
+upTo zero = []
+upTo (suc n) = upTo n ++ (suc n ∷ [])
+
+-- 2 by 2 pixels of so many bytes, copied within two rows of three pixels
+abbrev pub shifted : (depth raster src dst mode : ℕ) → List ℕ
+shifted depth raster src dst mode =
+    drawn (copy src dst mode but RASTER-MODE is raster but STRIDE is 3 * depth * 0x00010001 but WID-HEIGHT is 0x00020002) (upTo (6 * depth))
+
+-- what judges the block at each of these offsets in 32 bytes of frame memory: as a destination, and as a source
+abbrev pub drawnFrom : (raster mode : ℕ) → List ℕ → List (ℕ × Extent)
+drawnFrom raster mode offsets = map (λ offset. boundsOf raster offset mode 32) offsets
+
+abbrev pub readFrom : (raster mode dst : ℕ) → List ℕ → List ℕ
+readFrom raster mode dst offsets = map (λ offset. judge Blt (block raster offset dst mode) 32) offsets
+
+-- X negative: the offset names the last byte of the first pixel (W2)
+pub record NegativeX : Type 0 where
+  -- copies one pixel to the right, down and up: nothing is shifted by a byte, and nothing smears
+  pub shifted-16 :
+      shifted 2 0x600000CC 3 5 0x201 ∷ shifted 2 0x600000CC 9 11 0x301 ∷ []
+      ≡ replicate 2 (1 ∷ 2 ∷ 1 ∷ 2 ∷ 3 ∷ 4 ∷ 7 ∷ 8 ∷ 7 ∷ 8 ∷ 9 ∷ 10 ∷ [])
+  pub shifted-32 :
+      shifted 4 0x800000CC 7 11 0x201 ∷ shifted 4 0x800000CC 19 23 0x301 ∷ []
+      ≡ replicate 2 ((1 ∷ 2 ∷ 3 ∷ 4 ∷ 1 ∷ 2 ∷ 3 ∷ 4 ∷ 5 ∷ 6 ∷ 7 ∷ 8 ∷ []) ++ (13 ∷ 14 ∷ 15 ∷ 16 ∷ 13 ∷ 14 ∷ 15 ∷ 16 ∷ 17 ∷ 18 ∷ 19 ∷ 20 ∷ []))
+  -- 27: the first byte of frame memory just missed and just met, the last byte just met and just missed, down and up
+  pub drawn-16 :
+      drawnFrom 0x600000F0 0x200 (4 ∷ 5 ∷ 15 ∷ 16 ∷ []) ∷ drawnFrom 0x600000F0 0x300 (20 ∷ 21 ∷ 31 ∷ 32 ∷ []) ∷ []
+      ≡ replicate 2 ((27, Outside) ∷ (0, Inside 0 21) ∷ (0, Inside 10 31) ∷ (27, Outside) ∷ [])
+  pub drawn-32 :
+      drawnFrom 0x800000F0 0x200 (10 ∷ 11 ∷ 15 ∷ 16 ∷ []) ∷ drawnFrom 0x800000F0 0x300 (26 ∷ 27 ∷ 31 ∷ 32 ∷ []) ∷ []
+      ≡ replicate 2 ((27, Outside) ∷ (0, Inside 0 27) ∷ (0, Inside 4 31) ∷ (27, Outside) ∷ [])
+  -- 28: the same of a source
+  pub read-16 :
+      readFrom 0x600000F0 0x201 15 (4 ∷ 5 ∷ 15 ∷ 16 ∷ []) ∷ readFrom 0x600000F0 0x301 31 (20 ∷ 21 ∷ 31 ∷ 32 ∷ []) ∷ []
+      ≡ replicate 2 (28 ∷ 0 ∷ 0 ∷ 28 ∷ [])
+  pub read-32 :
+      readFrom 0x800000F0 0x201 15 (10 ∷ 11 ∷ 15 ∷ 16 ∷ []) ∷ readFrom 0x800000F0 0x301 31 (26 ∷ 27 ∷ 31 ∷ 32 ∷ []) ∷ []
+      ≡ replicate 2 (28 ∷ 0 ∷ 0 ∷ 28 ∷ [])
+  -- one pixel of four bytes in 8: an offset below bytes a pixel - 1, and the last that fits; of one byte, a row of 4 in 16
+  pub one-wide :
+      map (λ offset. judge Blt (copy 0 offset 0x200 but RASTER-MODE is 0x800000F0 but WID-HEIGHT is 0x00010001) 8) (0 ∷ 2 ∷ 3 ∷ 7 ∷ 8 ∷ [])
+      ≡ 27 ∷ 27 ∷ 0 ∷ 0 ∷ 27 ∷ []
+  pub bytes-left : map (λ offset. judge Blt (copy 0 offset 0x200) 16) (2 ∷ 3 ∷ 15 ∷ 16 ∷ []) ≡ 27 ∷ 0 ∷ 0 ∷ 27 ∷ []
+  -- and so row 3 refuses such a BLT in progress
+  pub left-in-progress :
+      map (λ offset. unfit (engine (block 0x800000F0 0 offset 0x200) 32 0 0 (Drawing Blt 5))) (10 ∷ 11 ∷ 15 ∷ 16 ∷ [])
+      ≡ true ∷ false ∷ false ∷ true ∷ []
+  -- with no source selected; and under a mono pattern, whose columns are counted from the first pixel as before
+  pub fill-left :
+      drawn (copy 0 4 0x200 but RASTER-MODE is 0x800000F0 but WID-HEIGHT is 0x00010001 but PAT-COLOR-0 is 0x01020304) (replicate 6 9)
+      ≡ 9 ∷ 4 ∷ 3 ∷ 2 ∷ 1 ∷ 9 ∷ []
+  pub pattern-left :
+      drawn (mono 0x600001F0 but DST-OFFSET is 15 but BLT-MODE is 0x200) (replicate 16 9)
+      ≡ 2 ∷ 0 ∷ 3 ∷ 0 ∷ 2 ∷ 0 ∷ 2 ∷ 0 ∷ 3 ∷ 0 ∷ 2 ∷ 0 ∷ 3 ∷ 0 ∷ 3 ∷ 0 ∷ []
+  -- a vector's offset is the first byte of its first pixel, whatever its directions and BLT_MODE: one of four bytes in 8
+  pub vectors-stay :
+      map (λ offset. judge Vector (line but RASTER-MODE is 0x800000F0 but DST-OFFSET is offset but BLT-MODE is 0x200) 8) (0 ∷ 4 ∷ 5 ∷ [])
+      ≡ 0 ∷ 0 ∷ 27 ∷ []
 
 -- pixels of one byte, 3 for a set bit and 2 for a clear one, expanded into rows of 9 bytes from byte 8 on. The bits begin at byte
 -- 0, XLSBS `skip`, source stride 4; BLT_MODE 41h is unpacked, 81h byte-packed mono from frame memory
@@ -423,6 +492,7 @@ pub record Further : Type 0 where
   pub commands : Commands
   pub calls : Calls
   pub pixels : Pixels
+  pub negative-x : NegativeX
   pub mono-sources : MonoSources
   pub vectors : Vectors
 
@@ -491,6 +561,7 @@ cases = (
     commands = record { headers-refused = refl; headers-taken = refl; returns-at-end = refl; header-alone = refl; part-waits = refl; only-loads = refl; blt-words = refl; skipped-words = refl; across-loads = refl; refused-loads-nothing = refl };
     calls = record { setup-fresh = refl; setup-refused = refl; setup-rings = refl; setup-frames = refl; publish-again = refl; publish-refused = refl; room-asked = refl; restart-moves = refl; restart-refused = refl; ring-lent = refl; frame-lent = refl; unfit-refused = refl; pointers = refl; stops = refl; stop-drawing = refl; places = refl; judged-place = refl };
     pixels = record { foreground = refl; own-stride = refl; two-bytes = refl; four-bytes = refl; mono-colours = refl; mono-transparent = refl; mono-units = refl; solid-transparent = refl; pattern-right-down = refl; pattern-left-down = refl; pattern-right-up = refl; pattern-left-up = refl };
+    negative-x = record { shifted-16 = refl; shifted-32 = refl; drawn-16 = refl; drawn-32 = refl; read-16 = refl; read-32 = refl; one-wide = refl; bytes-left = refl; left-in-progress = refl; fill-left = refl; pattern-left = refl; vectors-stay = refl };
     mono-sources = record { table-6-23 = refl; table-6-24 = refl; widths-from-0 = refl; widths-from-7 = refl; rows-back = refl; stride-0 = refl; wide-pixels = refl; by-pattern = refl; transparent-units = refl; by-both = refl; overwritten = refl; unselected = refl; directions = refl; source-bits = refl; bits-unpacked = refl; bits-packed = refl; bits-back = refl; bits-in-progress = refl };
     vectors = record { zero-error = refl; other-axis = refl; vector-words = refl; vector-frame = refl };
   },

@@ -147,7 +147,7 @@ pub struct Axis {
     pub negative: bool,
 }
 
-// Pixels in frame memory: where the first one drawn lies, bytes a pixel, and the two axes.
+// Pixels in frame memory: the first byte of the first one drawn, or with X negative its last; bytes a pixel; and the two axes.
 pub struct Rectangle {
     pub offset: usize,
     pub depth: usize,

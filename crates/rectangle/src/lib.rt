@@ -1,6 +1,7 @@
 // A rectangle of pixels in frame memory: where its pixels lie.
 ghost use mathlib.Core.Path.{_≡_};
-ghost use Prim.Native.Nat.{_+_, _-_, _*_, _^_, _<_};
+ghost use Prim.Native.Nat.{_+_, _-_, _≤_};
+ghost use Rattle.model.specs.Bounds.{added, taken};
 ghost use Rattle.model.specs.Rectangle.{ahead, behind, pixelByte, rectangleExtent};
 ghost use Rattle.laws.specs.Ranges.{Ranged};
 ghost use Rattle.laws.specs.Extremes.{Reached, Along};
@@ -8,46 +9,42 @@ use model::Axis;
 use model::Extent;
 use model::Rectangle;
 
-// What n steps along an axis add to a position.
-fn added(a: Axis, n: usize) -> usize
-    requires { ⌜ n * a .step < 2 ^ 32 ⌝ }
-    ensures { λ r. ⌜ (r ≡ ahead a n) × (r < 2 ^ 32) ⌝ }
+// What n bytes along an axis add to a position: none where it goes back.
+fn further(negative: bool, n: usize) -> usize
+    ensures { λ r. ⌜ (r ≡ added negative n) × (r ≤ n) ⌝ }
 {
-    let negative = a.negative;
     if negative {
         return 0;
     }
-    n * a.step
+    n
 }
 
 // What they take away.
-fn taken(a: Axis, n: usize) -> usize
-    requires { ⌜ n * a .step < 2 ^ 32 ⌝ }
-    ensures { λ r. ⌜ (r ≡ behind a n) × (r < 2 ^ 32) ⌝ }
+fn back(negative: bool, n: usize) -> usize
+    ensures { λ r. ⌜ (r ≡ taken negative n) × (r ≤ n) ⌝ }
 {
-    let negative = a.negative;
     if negative {
-        return n * a.step;
+        return n;
     }
     0
 }
 
 // The lowest and the highest byte of a rectangle in a frame memory of so many bytes, or that some byte lies outside: by the
-// extremes of the two axes.
+// extremes of the two axes. From the byte that the offset names a row reaches `across` bytes further or back.
 pub fn extent(framelength: usize, r: Rectangle) -> Extent
     requires { ⌜ Ranged r ⌝ }
     ensures { λ e. ⌜ e ≡ rectangleExtent framelength r ⌝ }
 {
     let columns = r.columns;
     let rows = r.rows;
-    let across = columns.count - 1;
-    let along = rows.count - 1;
-    let fall = taken(columns, across) + taken(rows, along);
+    let across = (columns.count - 1) * columns.step + (r.depth - 1);
+    let along = (rows.count - 1) * rows.step;
+    let fall = back(columns.negative, across) + back(rows.negative, along);
     let offset = r.offset;
     if offset < fall {
         return Extent::Outside;
     }
-    let high = offset + (added(columns, across) + added(rows, along)) + (r.depth - 1);
+    let high = offset + (further(columns.negative, across) + further(rows.negative, along));
     if framelength <= high {
         return Extent::Outside;
     }
@@ -57,16 +54,22 @@ pub fn extent(framelength: usize, r: Rectangle) -> Extent
     }
 }
 
-// The first byte of the pixel at column i of row j.
+// The first byte of the pixel at column i of row j. With X negative the offset names the last byte of the first pixel.
 pub fn pixel_byte(r: Rectangle, i: usize, j: usize) -> usize
     requires { ⌜ Reached r i j ⌝ }
     ensures { λ at. ⌜ at ≡ pixelByte r i j ⌝ }
 {
     let columns = r.columns;
     let rows = r.rows;
-    let plus = added(columns, i) + added(rows, j);
-    let minus = taken(columns, i) + taken(rows, j);
-    r.offset + plus - minus
+    let across = i * columns.step;
+    let along = j * rows.step;
+    let plus = further(rows.negative, along);
+    let minus = back(rows.negative, along);
+    let negative = columns.negative;
+    if negative {
+        return r.offset + plus - (across + minus + (r.depth - 1));
+    }
+    r.offset + (across + plus) - minus
 }
 
 // The byte m steps along an axis from byte `start`.
@@ -74,5 +77,6 @@ pub fn along(a: Axis, start: usize, m: usize) -> usize
     requires { ⌜ Along a start m ⌝ }
     ensures { λ at. ⌜ at ≡ start + ahead a m - behind a m ⌝ }
 {
-    start + added(a, m) - taken(a, m)
+    let n = m * a.step;
+    start + further(a.negative, n) - back(a.negative, n)
 }

@@ -1,48 +1,69 @@
-use Rattle.model.specs.Rectangle.{pixelByte}
 use native.Mathlib.Omega.{arith}
-use Rattle.laws.specs.Ranges.{across-most, along-most}
+use Rattle.model.specs.Rectangle.{pixelByte}
+use Rattle.laws.specs.Extremes.{small-reached}
 use borrow.Author.Needs.{needs}
 use Rattle.rectangle.proofs.pixel_byte.Statement.{statement}
 use Rattle.rectangle.proofs.pixel_byte.Tie as tie
 
-added-requires : tie.Need-added-requires
-added-requires c κs = omega (arith, across-most (c .before .before .pre .ranged) (c .before .before .args .i) (omega (arith, c .before .before .pre .column)))
+mul-across : tie.Need-mul-across
+mul-across c = omega (arith, small-reached (c .before .before .before .pre))
 
-added-requires-2 : tie.Need-added-requires-2
-added-requires-2 c κs = omega (arith, along-most (c .before .before .before .pre .ranged) (c .before .before .before .args .j) (c .before .before .before .pre .row))
+mul-along : tie.Need-mul-along
+mul-along c = omega (arith, small-reached (c .before .before .before .before .pre))
 
-add-plus : tie.Need-add-plus
-add-plus c = search needs
+further-requires : tie.Need-further-requires
+further-requires c κs = search needs
 
-taken-requires : tie.Need-taken-requires
-taken-requires c κs = omega (arith, across-most (c .before .before .before .before .pre .ranged) (c .before .before .before .before .args .i) (omega (arith, c .before .before .before .before .pre .column)))
-
-taken-requires-2 : tie.Need-taken-requires-2
-taken-requires-2 c κs = omega (arith, along-most (c .before .before .before .before .before .pre .ranged) (c .before .before .before .before .before .args .j) (c .before .before .before .before .before .pre .row))
-
-add-minus : tie.Need-add-minus
-add-minus c = search needs
+back-requires : tie.Need-back-requires
+back-requires c κs = search needs
 
 add-result : tie.Need-add-result
-add-result c = search needs
+add-result c = omega (arith, small-reached (c .before .before .before .before .before .before .before .before .pre), c .before .before .before .further .ensures .1)
+
+add-result-2 : tie.Need-add-result-2
+add-result-2 c = omega (arith, small-reached (c .before .before .before .before .before .before .before .before .pre), c .before .before .back .ensures .1)
 
 sub-result : tie.Need-sub-result
-sub-result c = search needs
+sub-result c = omega (arith, small-reached (c .before .before .before .before .before .before .before .before .before .pre))
+
+add-result-3 : tie.Need-add-result-3
+add-result-3 c = omega (arith, small-reached (c .before .before .before .before .before .before .before .before .before .pre), c .before .before .before .back .ensures .1)
+
+sub-result-2 : tie.Need-sub-result-2
+sub-result-2 c = omega (arith, rw (c .before .before .if1 .taken) at (c .before .before .before .before .before .before .before .before .before .pre .low), c .before .before .before .before .further .ensures .0, c .before .before .before .back .ensures .0)
 
 returns : tie.Need-returns
 unfolding pixelByte
-returns c = search needs
+returns c = rw (c .before .before .if1 .taken) (omega (arith, c .before .before .before .before .further .ensures .0, c .before .before .before .back .ensures .0))
+
+add-result-4 : tie.Need-add-result-4
+add-result-4 c = omega (arith, small-reached (c .before .before .before .before .before .before .before .pre), c .before .before .further .ensures .1)
+
+add-result-5 : tie.Need-add-result-5
+add-result-5 c = omega (arith, small-reached (c .before .before .before .before .before .before .before .before .pre), c .before .before .before .further .ensures .1)
+
+sub-result-3 : tie.Need-sub-result-3
+sub-result-3 c = omega (arith, rw (c .before .if1 .left) at (c .before .before .before .before .before .before .before .before .pre .low), c .before .before .before .further .ensures .0, c .before .before .back .ensures .0)
+
+returns-2 : tie.Need-returns-2
+unfolding pixelByte
+returns-2 c = rw (c .before .if1 .left) (omega (arith, c .before .before .before .further .ensures .0, c .before .before .back .ensures .0))
 
 pub pixel-byte-spec : {M : Type 1} → statement M
 pixel-byte-spec =
     tie.close
     (tie.spec
-    added-requires
-    added-requires-2
-    add-plus
-    taken-requires
-    taken-requires-2
-    add-minus
+    mul-across
+    mul-along
+    further-requires
+    back-requires
     add-result
+    add-result-2
     sub-result
-    returns)
+    add-result-3
+    sub-result-2
+    returns
+    add-result-4
+    add-result-5
+    sub-result-3
+    returns-2)
