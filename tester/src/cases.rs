@@ -118,7 +118,12 @@ fn settle(rng: &mut Rng, kind: Kind, registers: &mut Registers, frame_len: i64, 
         // near the destination, so that the copy overlaps, or a font is drawn over
         let depth = model::bytes_per_pixel(registers).unwrap_or(1);
         let reach = if rng.chance(1, 3) { depth } else { depth * 3 + 2 };
-        offset = (model::destination_offset(registers) + rng.between(-reach, reach)).clamp(first, last);
+        let apart = if model::x_negative(registers) && rng.chance(1, 2) {
+            -depth * rng.between(1, model::width(registers)) // a copy to the right
+        } else {
+            rng.between(-reach, reach)
+        };
+        offset = (model::destination_offset(registers) + apart).clamp(first, last);
     }
     set_offset(registers, register, offset);
     true
@@ -370,7 +375,8 @@ fn wish(rng: &mut Rng, kind: Kind, registers: &Registers, frame_len: u32, most: 
     *registers
 }
 
-/// Makes the source of a good BLT mono, half the time, with directions that 24 leaves it and the destination in the frame still.
+/// Makes the source of a good BLT mono, half the time, with directions that 24 leaves it, X often negative where it may be, and the
+/// destination in the frame still.
 fn choose_source(rng: &mut Rng, r: &mut Registers, frame_len: u32) {
     if rng.chance(1, 2) {
         set_source_mode(r, rng.pick(&[1, 2]));
@@ -378,8 +384,9 @@ fn choose_source(rng: &mut Rng, r: &mut Registers, frame_len: u32) {
         r[SRC_OFFSET] = r[SRC_OFFSET] & !XLSBS | (rng.bits() & XLSBS);
     }
     let refused = (X_NEGATIVE | Y_NEGATIVE) & !directions(r);
-    if r[BLT_MODE] & refused != 0 {
-        r[BLT_MODE] &= !refused;
+    let mode = r[BLT_MODE] & !refused | rng.bits() & directions(r) & X_NEGATIVE;
+    if mode != r[BLT_MODE] {
+        r[BLT_MODE] = mode;
         settle(rng, Kind::Blt, r, i64::from(frame_len), false);
     }
 }
@@ -446,13 +453,20 @@ fn damage(rng: &mut Rng, kind: Kind, r: &mut Registers, frame_len: u32, number: 
                     choose_source(rng, r, frame_len);
                 }
             }
+            if number == 27 && kind == Kind::Blt {
+                r[BLT_MODE] |= rng.bits() & directions(r) & X_NEGATIVE;
+            }
+            // the last byte of a BLT's first pixel at byte 0, if X is negative
+            let negative = kind == Kind::Blt && model::x_negative(r);
+            let last_byte = if negative { model::bytes_per_pixel(r).unwrap_or(1) - 1 } else { 0 };
             let register = if source { SRC_OFFSET } else { DST_OFFSET };
             set_offset(r, register, 0);
             let (low, high) = span(kind, r, source);
             let offset = match rng.below(8) {
                 0 => 0x00FF_FFFF,
                 1 => i64::from(frame_len) + rng.between(0, 40),
-                2..=4 if low < 0 => -low - 1, // one byte before the frame
+                2 | 3 if last_byte > 0 => rng.between(0, last_byte - 1),
+                2..=5 if low < 0 => -low - 1, // one byte before the frame
                 _ => i64::from(frame_len) - high, // one byte behind it
             };
             set_offset(r, register, offset);

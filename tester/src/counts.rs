@@ -82,6 +82,28 @@ const NEEDED: &[(&str, &[&str])] = &[
         ],
     ),
     (
+        "X negative",
+        &[
+            "X- 8 bpp Y+, no source", "X- 8 bpp Y+, a source", "X- 8 bpp Y-, no source", "X- 8 bpp Y-, a source",
+            "X- 16 bpp Y+, no source", "X- 16 bpp Y+, a source", "X- 16 bpp Y+, from byte 0", "X- 16 bpp Y+, to the last byte",
+            "X- 16 bpp Y+, source from byte 0", "X- 16 bpp Y+, source to the last byte", "X- 16 bpp Y+, overlap to the right",
+            "X- 16 bpp Y-, no source", "X- 16 bpp Y-, a source", "X- 16 bpp Y-, from byte 0", "X- 16 bpp Y-, to the last byte",
+            "X- 16 bpp Y-, source from byte 0", "X- 16 bpp Y-, source to the last byte", "X- 16 bpp Y-, overlap to the right",
+            "X- 16 bpp, SM mono, no source", "X- 16 bpp, a mono pattern", "X- 16 bpp, a transparent pattern",
+            "X- 16 bpp drawn, 27 in document 01", "X- 16 bpp drawn, 28 in document 01", "spent inside X- 16 bpp",
+            "27 X- 16 bpp, drawn in document 01", "27 X- 16 bpp, offset below a pixel's last byte",
+            "28 X- 16 bpp, drawn in document 01", "28 X- 16 bpp, offset below a pixel's last byte", "vector back 16 bpp",
+            "X- 32 bpp Y+, no source", "X- 32 bpp Y+, a source", "X- 32 bpp Y+, from byte 0", "X- 32 bpp Y+, to the last byte",
+            "X- 32 bpp Y+, source from byte 0", "X- 32 bpp Y+, source to the last byte", "X- 32 bpp Y+, overlap to the right",
+            "X- 32 bpp Y-, no source", "X- 32 bpp Y-, a source", "X- 32 bpp Y-, from byte 0", "X- 32 bpp Y-, to the last byte",
+            "X- 32 bpp Y-, source from byte 0", "X- 32 bpp Y-, source to the last byte", "X- 32 bpp Y-, overlap to the right",
+            "X- 32 bpp, SM mono, no source", "X- 32 bpp, a mono pattern", "X- 32 bpp, a transparent pattern",
+            "X- 32 bpp drawn, 27 in document 01", "X- 32 bpp drawn, 28 in document 01", "spent inside X- 32 bpp",
+            "27 X- 32 bpp, drawn in document 01", "27 X- 32 bpp, offset below a pixel's last byte",
+            "28 X- 32 bpp, drawn in document 01", "28 X- 32 bpp, offset below a pixel's last byte", "vector back 32 bpp",
+        ],
+    ),
+    (
         "inputs",
         &[
             "recording", "trace", "recording one byte short", "recording one byte long", "recording one word off", "recording empty",
@@ -211,6 +233,9 @@ impl Counts {
             let (low, high) = span(kind, &r, source);
             (low == -1, high == i64::from(before.frame_len))
         };
+        if number >= 27 && blt && model::x_negative(&r) {
+            self.refused_back(&r, before.frame_len, number);
+        }
         match number {
             21 => {
                 self.hit("21 reserved bit");
@@ -326,6 +351,8 @@ impl Counts {
             let axis = if field(mode, 0, 0) == 1 { "Y" } else { "X" };
             let sign = |bit: u32| if field(mode, bit, bit) == 1 { "+" } else { "-" };
             self.hit(&format!("vector {axis}{} minor {}", sign(1), sign(2)));
+            let x_back = sign(if axis == "X" { 1 } else { 2 }) == "-";
+            self.hit_if(x_back && depth > 1, &format!("vector back {} bpp", 8 * depth));
             let pixels: Vec<_> = model::vector_pixels(r, depth).collect();
             self.hit_if(pixels.len() == 1, "vector length 1");
             self.hit_if(pixels.len() > 100, "vector over 100 pixels");
@@ -366,6 +393,9 @@ impl Counts {
         self.hit_if(low == 0, "blt first byte");
         self.hit_if(high == frame_len - 1, "blt last byte");
         self.hit_if(model::width(r) == 4_095 || model::height(r) == 4_095, "blt of 4095");
+        if model::x_negative(r) {
+            self.drawn_back(r, frame_len);
+        }
         if !model::source_selected(r) {
             self.hit("blt-no-source");
             let mode = mode_name(r);
@@ -393,6 +423,60 @@ impl Counts {
             self.hit_if(apart < depth, "overlap inside a pixel");
         }
     }
+}
+
+impl Counts {
+    /// A BLT with X negative that is drawn.
+    fn drawn_back(&mut self, r: &Registers, frame_len: i64) {
+        let depth = model::bytes_per_pixel(r).unwrap_or(1);
+        let back = format!("X- {} bpp", 8 * depth);
+        let y = if model::y_negative(r) { "Y-" } else { "Y+" };
+        let selected = model::source_selected(r);
+        let rows = model::height(r) > 1 && model::destination_stride(r) > 0;
+        self.hit_if(rows, &format!("{back} {y}, {} source", if selected { "a" } else { "no" }));
+        if depth == 1 {
+            return;
+        }
+        self.hit_if(!selected && mode_name(r) != "colour", &format!("{back}, SM mono, no source"));
+        let pattern = field(r[RASTER_MODE], 10, 8);
+        self.hit_if(pattern == 0b001, &format!("{back}, a mono pattern"));
+        self.hit_if(pattern == 0b101, &format!("{back}, a transparent pattern"));
+        let (low, high) = span(Kind::Blt, r, false);
+        self.hit_if(rows && low == 0, &format!("{back} {y}, from byte 0"));
+        self.hit_if(rows && high == frame_len - 1, &format!("{back} {y}, to the last byte"));
+        if selected && rows && model::source_stride(r) > 0 {
+            let (first, last) = span(Kind::Blt, r, true);
+            self.hit_if(first == 0, &format!("{back} {y}, source from byte 0"));
+            self.hit_if(last == frame_len - 1, &format!("{back} {y}, source to the last byte"));
+            let right = model::destination_offset(r) - model::source_offset(r);
+            let alike = model::source_stride(r) == model::destination_stride(r);
+            self.hit_if(alike && 0 < right && right < depth * model::width(r), &format!("{back} {y}, overlap to the right"));
+        }
+        let number = model::judge(Kind::Blt, &as_in_document_01(r), frame_len as u32);
+        self.hit_if(number != 0, &format!("{back} drawn, {number} in document 01"));
+    }
+
+    /// A BLT with X negative that is refused by 27 or 28.
+    fn refused_back(&mut self, r: &Registers, frame_len: u32, number: u32) {
+        let depth = model::bytes_per_pixel(r).unwrap_or(1);
+        if depth > 1 {
+            let name = format!("{number} X- {} bpp", 8 * depth);
+            let drawn = model::judge(Kind::Blt, &as_in_document_01(r), frame_len) == 0;
+            self.hit_if(drawn, &format!("{name}, drawn in document 01"));
+            let offset = if number == 27 { model::destination_offset(r) } else { model::source_offset(r) };
+            self.hit_if(offset < depth - 1, &format!("{name}, offset below a pixel's last byte"));
+        }
+    }
+}
+
+/// The BLT with X negative whose pixels lie where document 01 puts those of this one.
+fn as_in_document_01(r: &Registers) -> Registers {
+    let mut moved = *r;
+    let bytes = model::bytes_per_pixel(r).unwrap_or(1) as u32;
+    for register in [DST_OFFSET, SRC_OFFSET] {
+        moved[register] = (r[register] & 0xFF00_0000) | (field(r[register], 23, 0) + bytes - 1).min(0x00FF_FFFF);
+    }
+    moved
 }
 
 impl Counts {
@@ -645,6 +729,9 @@ impl Counts {
                         self.hit(if place.kind == Kind::Blt { "spent inside a BLT" } else { "spent inside a vector" });
                         let mono = model::source_selected(&after.registers) && mode_name(&after.registers) != "colour";
                         self.hit_if(place.kind == Kind::Blt && mono, &format!("spent inside {}", mode_name(&after.registers)));
+                        let depth = model::bytes_per_pixel(&after.registers).unwrap_or(1);
+                        let back = place.kind == Kind::Blt && model::x_negative(&after.registers) && depth > 1;
+                        self.hit_if(back, &format!("spent inside X- {} bpp", 8 * depth));
                         let left = model::pixel_count(place.kind, &after.registers) - place.drawn;
                         self.hit_if(left == 1 && used, "budget one short");
                     }

@@ -1,7 +1,7 @@
-//! A second drawing engine, written from document 01 and request W1 of document 02, to be read beside them.
+//! A second drawing engine, written from document 01 and requests W1 and W2 of document 02, to be read beside them.
 //!
 //! It is slow on purpose: it works unit by unit, finds the bounds by going through every byte of every pixel, and does the raster
-//! operation bit by bit. The quotations are document 01's; W1's and the data book's (000) are named.
+//! operation bit by bit. The quotations are document 01's; W1's, W2's and the data book's (000) are named.
 
 // ---- Registers ------------------------------------------------------------------------------------------------------------------
 
@@ -568,6 +568,7 @@ pub fn initial_error(registers: &Registers) -> i64 {
 // ---- A BLT pixel ----------------------------------------------------------------------------------------------------------------
 
 pub struct BltPixel {
+    /// its first byte
     pub destination: i64,
     /// the first byte of the source pixel, or the byte that holds the bit of a mono source
     pub source: i64,
@@ -586,6 +587,8 @@ pub fn blt_pixel(registers: &Registers, depth: i64, k: i64) -> BltPixel {
     // "i pixels further, or back if X is negative, and j destination strides further, or back if Y is negative"
     let steps_x = if x_negative(registers) { -i } else { i };
     let steps_y = if y_negative(registers) { -j } else { j };
+    // W2: "with X negative the offset names the last byte of that pixel, for colour source and destination alike"
+    let to_first_byte = if x_negative(registers) { 1 - depth } else { 0 };
     let offset_register = registers[DST_OFFSET];
 
     // "Source pixels go the same way with their own offset and stride." 000, 6.4.2.4, for mono too: "Adding the GP_STRIDE to the
@@ -601,13 +604,13 @@ pub fn blt_pixel(registers: &Registers, depth: i64, k: i64) -> BltPixel {
     let source_bit = 7 - from_row % 8;
     let (source, source_bytes) = match source_mode(registers) {
         // 11 is refused
-        SourceMode::Colour | SourceMode::Undefined => (by_stride + steps_x * depth, depth),
+        SourceMode::Colour | SourceMode::Undefined => (by_stride + to_first_byte + steps_x * depth, depth),
         SourceMode::Unpacked => (by_stride + from_row / 8, 1),
         SourceMode::BytePacked => (packed + from_row / 8, 1),
     };
 
     BltPixel {
-        destination: destination_offset(registers) + steps_x * depth + steps_y * destination_stride(registers),
+        destination: destination_offset(registers) + to_first_byte + steps_x * depth + steps_y * destination_stride(registers),
         source,
         source_bytes,
         source_bit,

@@ -1,4 +1,4 @@
-//! Document 01's shop cases and its replay example, and cases of request W1, asked of the model. Run by `rustc --test`.
+//! Document 01's shop cases and its replay example, and cases of requests W1 and W2, asked of the model. Run by `rustc --test`.
 
 use crate::model::*;
 use crate::programs::{crc32, replay, trace, Nobody};
@@ -266,6 +266,154 @@ fn mono_and_28() {
             assert_eq!(fit(&state), wanted == 0);
             registers[RASTER_MODE] |= 8 << 28;
             assert_eq!(judge(Kind::Blt, &registers, frame_len), if width > 4 { 27 } else { wanted });
+        }
+    }
+}
+
+// ---- W2: X negative -------------------------------------------------------------------------------------------------------------
+
+/// RASTER_MODE's format, and bytes a pixel
+const DEPTHS: [(u32, i64); 3] = [(0, 1), (6 << 28, 2), (8 << 28, 4)];
+const DIRECTIONS: [u32; 4] = [0, X_NEGATIVE, Y_NEGATIVE, X_NEGATIVE | Y_NEGATIVE];
+
+/// One command on this frame memory: the stop number.
+fn draw(words: &[u32], frame: &mut [u8]) -> u32 {
+    let state = state_at(0, words.len() as u32, frame.len() as u32);
+    quiet_run(state, &ring_with(0, words), frame, u32::MAX).0.stop
+}
+
+/// Two rows of three pixels, 13 bytes apart. In a frame of 64: the offsets with all bytes inside.
+fn offsets_inside(depth: i64, direction: u32) -> std::ops::RangeInclusive<i64> {
+    let left = if direction & X_NEGATIVE != 0 { 3 * depth - 1 } else { 0 };
+    let above = if direction & Y_NEGATIVE != 0 { 13 } else { 0 };
+    let all = 13 + 3 * depth;
+    left + above..=64 - all + left + above
+}
+
+fn two_rows(format: u32, direction: u32, to: i64, from: Option<i64>) -> Vec<u32> {
+    let values = [
+        (RASTER_MODE, format | if from.is_some() { 0xCC } else { 0xF0 }),
+        (DST_OFFSET, to as u32),
+        (SRC_OFFSET, from.unwrap_or(0) as u32),
+        (STRIDE, 13 << 16 | 13),
+        (WID_HEIGHT, 3 << 16 | 2),
+        (PAT_COLOR_0, 0xA4A3_A2A1),
+        (BLT_MODE, direction | u32::from(from.is_some())),
+    ];
+    blt(DRAWING_BLT, &values)
+}
+
+/// Two rows with a byte between them: four of five pixels of 16 bits, and two of three of 32 bits, go one pixel to the right.
+#[test]
+fn copies_to_the_right() {
+    let two_bytes = vec![0, 1, 0, 1, 2, 3, 4, 5, 6, 7, 10, 11, 12, 11, 12, 13, 14, 15, 16, 17, 18];
+    let four_bytes = vec![0, 1, 2, 3, 0, 1, 2, 3, 4, 5, 6, 7, 12, 13, 14, 15, 16, 13, 14, 15, 16, 17, 18, 19, 20];
+    for (format, width, stride, from, to, wanted) in [(6 << 28, 4, 11, 7, 9, two_bytes), (8 << 28, 2, 13, 7, 11, four_bytes)] {
+        for (y, row) in [(0, 0), (Y_NEGATIVE, stride)] {
+            let values = [
+                (RASTER_MODE, format | 0xCC),
+                (DST_OFFSET, to + row),
+                (SRC_OFFSET, from + row),
+                (STRIDE, stride << 16 | stride),
+                (WID_HEIGHT, width << 16 | 2),
+                (BLT_MODE, X_NEGATIVE | y | FRAME_MEMORY),
+            ];
+            let mut frame: Vec<u8> = (0..wanted.len() as u8).collect();
+            assert_eq!(draw(&blt(DRAWING_BLT, &values), &mut frame), 0);
+            assert_eq!(frame, wanted);
+        }
+    }
+}
+
+/// A rectangle, filled or copied, lies at the same bytes whatever the directions, from the frame's first byte or up to its last.
+#[test]
+fn same_bytes_in_all_directions() {
+    for (format, depth) in DEPTHS {
+        for direction in DIRECTIONS {
+            let inside = offsets_inside(depth, direction);
+            let (low, high) = (*inside.start(), *inside.end());
+            let apart = (high - low) as usize;
+            for (to, from, first, source) in [(low, high, 0, apart), (high, low, apart, 0)] {
+                let before: [u8; 64] = std::array::from_fn(|at| at as u8);
+                let (mut fill_wanted, mut copy_wanted) = (before, before);
+                for row in [0, 13] {
+                    for byte in 0..3 * depth as usize {
+                        fill_wanted[first + row + byte] = 0xA1 + byte as u8 % depth as u8;
+                        copy_wanted[first + row + byte] = before[source + row + byte];
+                    }
+                }
+                for unused in [0, UNPACKED, BYTE_PACKED] {
+                    let mut filled = before;
+                    assert_eq!(draw(&two_rows(format, direction | unused, to, None), &mut filled), 0);
+                    assert_eq!(filled, fill_wanted);
+                }
+                let mut copied = before;
+                assert_eq!(draw(&two_rows(format, direction, to, Some(from)), &mut copied), 0);
+                assert_eq!(copied, copy_wanted);
+            }
+        }
+    }
+}
+
+#[test]
+fn directions_and_bounds() {
+    for (format, depth) in DEPTHS {
+        for direction in DIRECTIONS {
+            let inside = offsets_inside(depth, direction);
+            for offset in 0..72 {
+                let number = |outside: u32| if inside.contains(&offset) { 0 } else { outside };
+                let good = *inside.start();
+                let judged = |words: Vec<u32>| draw(&words, &mut [0; 64]);
+                assert_eq!(judged(two_rows(format, direction, offset, None)), number(27));
+                assert_eq!(judged(two_rows(format, direction, offset, Some(good))), number(27));
+                assert_eq!(judged(two_rows(format, direction, good, Some(offset))), number(28));
+            }
+        }
+    }
+}
+
+/// Row A5h, X low bits 0, X negative: columns 0 7 6 5 4 3 2 1.
+#[test]
+fn patterns_go_back() {
+    for (format, depth) in DEPTHS {
+        let values = [
+            (RASTER_MODE, format | 0x1F0),
+            (DST_OFFSET, 8 * depth as u32 - 1),
+            (STRIDE, 40),
+            (WID_HEIGHT, 8 << 16 | 1),
+            (PAT_COLOR_1, u32::MAX),
+            (PAT_DATA_0, 0xA5),
+            (BLT_MODE, X_NEGATIVE),
+        ];
+        let mut frame = vec![0x11; 8 * depth as usize];
+        assert_eq!(draw(&blt(DRAWING_BLT, &values), &mut frame), 0);
+        let from_the_left = [0, 0xFF, 0, 0, 0xFF, 0, 0xFF, 0xFF];
+        let wanted: Vec<u8> = from_the_left.into_iter().flat_map(|byte| vec![byte; depth as usize]).collect();
+        assert_eq!(frame, wanted);
+    }
+}
+
+/// A vector of three pixels that goes back: its offset names the first byte of its first pixel.
+#[test]
+fn vectors_do_not_move() {
+    for (format, depth) in DEPTHS {
+        for offset in 0..20 {
+            let mut words = vec![1 << 29 | 0x1FFF];
+            words.extend(VECTOR_WORDS.map(|register| match register {
+                RASTER_MODE => format | 0xF0,
+                DST_OFFSET => offset as u32,
+                STRIDE => 5,
+                VEC_LEN => 3 << 16 | 0xFFFF,
+                PAT_COLOR_0 => u32::MAX,
+                _ => 0,
+            }));
+            let (mut frame, mut wanted) = ([0; 16], [0; 16]);
+            let inside = (2 * depth..=16 - depth).contains(&offset);
+            assert_eq!(draw(&words, &mut frame), if inside { 0 } else { 27 });
+            if inside {
+                wanted[(offset - 2 * depth) as usize..(offset + depth) as usize].fill(0xFF);
+            }
+            assert_eq!(frame, wanted);
         }
     }
 }
