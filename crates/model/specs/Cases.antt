@@ -364,7 +364,7 @@ pub record NegativeX : Type 0 where
   pub pattern-left :
       drawn (mono 0x600001F0 but DST-OFFSET is 15 but BLT-MODE is 0x200) (replicate 16 9)
       ≡ 2 ∷ 0 ∷ 3 ∷ 0 ∷ 2 ∷ 0 ∷ 2 ∷ 0 ∷ 3 ∷ 0 ∷ 2 ∷ 0 ∷ 3 ∷ 0 ∷ 3 ∷ 0 ∷ []
-  -- a vector's offset is the first byte of its first pixel, whatever its directions and BLT_MODE: one of four bytes in 8
+  -- a vector that goes back, X negative left in BLT_MODE: its offset is still a first byte. One pixel of four bytes in 8
   pub vectors-stay :
       map (λ offset. judge Vector (line but RASTER-MODE is 0x800000F0 but DST-OFFSET is offset but BLT-MODE is 0x200) 8) (0 ∷ 4 ∷ 5 ∷ [])
       ≡ 0 ∷ 0 ∷ 27 ∷ []
