@@ -76,6 +76,7 @@ lastPlus r = plusAt r (r .columns .count - 1) (r .rows .count - 1)
 abbrev lastMinus : Rectangle → ℕ
 lastMinus r = minusAt r (r .columns .count - 1) (r .rows .count - 1)
 
+-- fall and rise by those steps: the highest pixel, too, begins `namedByte` before where its steps lead
 extremes : (r : Rectangle) → (fall r ≡ lastMinus r) × (rise r + namedByte r ≡ lastPlus r + (r .depth - 1))
 extremes r = ⊎-elim (λ e. rw e (omega arith, omega arith)) (λ e. rw e (omega arith, omega arith)) (true-or-false (r .columns .negative))
 
