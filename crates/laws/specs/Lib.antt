@@ -15,4 +15,5 @@ pub mod ClosedForm
 pub mod Numbers
 pub mod Extremes
 pub mod Rows
+pub mod Lows
 pub mod Fills

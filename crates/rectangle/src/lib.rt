@@ -1,10 +1,11 @@
 // A rectangle of pixels in frame memory: where its pixels lie.
 ghost use mathlib.Core.Path.{_≡_};
-ghost use Prim.Native.Nat.{_+_, _-_, _≤_};
+ghost use Prim.Native.Nat.{_+_, _-_, _^_, _≤_, _<_};
 ghost use Rattle.model.specs.Bounds.{added, taken};
 ghost use Rattle.model.specs.Rectangle.{ahead, behind, pixelByte, rectangleExtent};
 ghost use Rattle.laws.specs.Ranges.{Ranged};
 ghost use Rattle.laws.specs.Extremes.{Reached, Along};
+ghost use Rattle.laws.specs.Lows.{lowColumn, lowByte};
 use model::Axis;
 use model::Extent;
 use model::Rectangle;
@@ -79,4 +80,25 @@ pub fn along(a: Axis, start: usize, m: usize) -> usize
 {
     let n = m * a.step;
     start + further(a.negative, n) - back(a.negative, n)
+}
+
+// The lowest of n columns from column i.
+fn low_column(negative: bool, i: usize, n: usize) -> usize
+    requires { ⌜ (0 < n) × (i + n < 2 ^ 32) ⌝ }
+    ensures { λ r. ⌜ r ≡ lowColumn negative i n ⌝ }
+{
+    if negative {
+        return i + (n - 1);
+    }
+    i
+}
+
+// The lowest byte of n pixels of row j, from column i.
+pub fn low_byte(r: Rectangle, i: usize, j: usize, n: usize) -> usize
+    requires { ⌜ (0 < n) × (i + n < 2 ^ 32) × (Reached r (lowColumn (r .columns .negative) i n) j) ⌝ }
+    ensures { λ at. ⌜ at ≡ lowByte r i j n ⌝ }
+{
+    let columns = r.columns;
+    let low = low_column(columns.negative, i, n);
+    pixel_byte(r, low, j)
 }
