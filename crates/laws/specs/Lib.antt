@@ -16,4 +16,6 @@ pub mod Numbers
 pub mod Extremes
 pub mod Rows
 pub mod Lows
+pub mod Changes
+pub mod Plain
 pub mod Fills

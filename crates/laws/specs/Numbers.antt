@@ -1,8 +1,14 @@
--- The columns and rows of pixels that are counted row by row.
-use Prim.Native.Nat.{ℕ, suc, _+_, _*_, _/_, _%_, _≤_, _<_}
+-- The columns and rows of pixels that are counted row by row, and which of two numbers is less.
+use Prim.Native.Nat.{ℕ, zero, suc, _+_, _*_, _/_, _%_, _≤_, _<_}
 use mathlib.Core.Path.{_≡_, _∙_}
+use mathlib.Core.Logic.{_⊎_, inl, inr, ⊎-elim}
 use native.Mathlib.Omega.{arith}
 use native.Mathlib.Nat.{mul-le-mul-right, mod-eq-of-lt, mul-add-mod-self-right, mul-add-div-right, div-eq-of-lt, div-lt-iff-lt-mul, div-add-mod', add-zero, mul-comm}
+
+pub less-or-not : (m n : ℕ) → (m < n) ⊎ (n ≤ m)
+less-or-not m zero = inr (omega arith)
+less-or-not zero (suc n) = inl (omega arith)
+less-or-not (suc m) (suc n) = ⊎-elim (λ l. inl (omega arith)) (λ l. inr (omega arith)) (less-or-not m n)
 
 -- of w columns and h rows, column i of row j is number j * w + i
 pub column-is : (w j i : ℕ) → i < w → (j * w + i) % w ≡ i

@@ -1,9 +1,9 @@
 -- Pixels of n bytes: facts about depth, once over the byte count.
 use Prim.Native.Nat.{ℕ, zero, suc, _+_, _-_, _*_, _/_, _%_, _^_, _≤_, _<_}
 use mathlib.Core.Path.{_≡_, refl, sym, ap, _∙_}
-use mathlib.Core.List.{List}
+use mathlib.Core.List.{List, [], _∷_}
 use native.Mathlib.Omega.{arith}
-use native.Mathlib.Nat.{mul-suc, add-suc}
+use native.Mathlib.Nat.{mul-suc, add-suc, mod-lt}
 use lib.Arith.{mod-mul}
 use lib.Pow.{pow-pos, pow-add}
 use lib.ListN.{length, getD, set, length-set}
@@ -42,6 +42,69 @@ store-below zero frame at value i h = refl
 store-below (suc n) frame at value i h =
     store-below n _ (at + 1) (value / 256) i (omega arith)
     ∙ getD-set-other frame at i (value % 256) 0 (λ e. omega arith)
+
+pub store-above : (n : ℕ) (frame : List ℕ) (at value i : ℕ) → at + n ≤ i
+    → getD (storePixel n frame at value) i 0 ≡ getD frame i 0
+unfolding storePixel
+store-above zero frame at value i h = refl
+store-above (suc n) frame at value i h =
+    store-above n _ (at + 1) (value / 256) i (omega arith)
+    ∙ getD-set-other frame at i (value % 256) 0 (λ e. omega arith)
+
+-- a pixel is read by its bytes
+pub read-same : (n : ℕ) (xs ys : List ℕ) (a b : ℕ) → ((j : ℕ) → j < n → getD xs (a + j) 0 ≡ getD ys (b + j) 0)
+    → readPixel n xs a ≡ readPixel n ys b
+unfolding readPixel
+read-same zero xs ys a b h = refl
+read-same (suc n) xs ys a b h =
+    let y : a + 0 ≡ a = omega arith in
+    let z : b + 0 ≡ b = omega arith in
+    let one : getD xs a 0 ≡ getD ys b 0 = rw (y, z) at (h 0 (omega arith)) in
+    let rest = read-same n xs ys (a + 1) (b + 1)
+    (λ j l.
+    let e : a + 1 + j ≡ a + suc j = omega arith in
+    let f : b + 1 + j ≡ b + suc j = omega arith in
+    rw (e, f) (h (suc j) (omega arith))) in
+    rw (one, rest)
+
+-- frame memory holds bytes, and goes on doing so
+abbrev pub Bytes : List ℕ → Type 0
+Bytes frame = (i : ℕ) → getD frame i 0 < 256
+
+set-bytes : (frame : List ℕ) (at value : ℕ) → value < 256 → Bytes frame → Bytes (set frame at value)
+set-bytes [] at value l p i = p i
+set-bytes (x ∷ frame) zero value l p zero = l
+set-bytes (x ∷ frame) zero value l p (suc i) = p (suc i)
+set-bytes (x ∷ frame) (suc at) value l p zero = p zero
+set-bytes (x ∷ frame) (suc at) value l p (suc i) = set-bytes frame at value l (λ k. p (suc k)) i
+
+pub store-bytes : (n : ℕ) (frame : List ℕ) (at value : ℕ) → Bytes frame → Bytes (storePixel n frame at value)
+unfolding storePixel
+store-bytes zero frame at value p = p
+store-bytes (suc n) frame at value p =
+    store-bytes n _ (at + 1) (value / 256) (set-bytes frame at (value % 256) (mod-lt value (omega arith)) p)
+
+-- so a pixel is a number of its bits, and storing it as it is changes nothing
+pub read-lt : (n : ℕ) (frame : List ℕ) (at : ℕ) → Bytes frame → readPixel n frame at < 2 ^ (8 * n)
+unfolding readPixel
+read-lt zero frame at p = omega arith
+read-lt (suc n) frame at p =
+    let e : 2 ^ (8 * suc n) ≡ 2 ^ (8 * n) * 256 = ap (λ (x : ℕ). 2 ^ x) (mul-suc 8 n) ∙ pow-add 2 (8 * n) 8 in
+    omega (arith, e, p at, read-lt n frame (at + 1) p)
+
+set-same : (frame : List ℕ) (at : ℕ) → set frame at (getD frame at 0) ≡ frame
+set-same [] at = refl
+set-same (x ∷ frame) zero = refl
+set-same (x ∷ frame) (suc at) = ap (λ (t : List ℕ). x ∷ t) (set-same frame at)
+
+pub store-read : (n : ℕ) (frame : List ℕ) (at : ℕ) → Bytes frame → storePixel n frame at (readPixel n frame at) ≡ frame
+unfolding readPixel storePixel
+store-read zero frame at p = refl
+store-read (suc n) frame at p =
+    let q = p at in
+    let low : (getD frame at 0 + 256 * readPixel n frame (at + 1)) % 256 ≡ getD frame at 0 = omega arith in
+    let high : (getD frame at 0 + 256 * readPixel n frame (at + 1)) / 256 ≡ readPixel n frame (at + 1) = omega arith in
+    rw (low, high, set-same frame at) (store-read n frame (at + 1) p)
 
 -- a value's lowest byte and the bytes above it
 bytes : (n value : ℕ) → value % 2 ^ (8 * suc n) ≡ value / 256 % 2 ^ (8 * n) * 256 + value % 256

@@ -2,15 +2,15 @@
 -- same bit of a third says; the raster operation is a choice by S of two choices by D of four choices by P, between masks
 -- of the code's eight bits.
 use Prim.Native.Nat.{ℕ, zero, suc, _+_, _-_, _*_, _/_, _%_, _^_, _<_}
-use mathlib.Core.Path.{_≡_, refl, ap, _∙_}
+use mathlib.Core.Path.{_≡_, refl, sym, ap, _∙_}
 use mathlib.Core.Logic.{⊎-elim}
 use native.Mathlib.Omega.{arith}
 use native.Mathlib.Nat.{pow-suc}
-use lib.Bits.{bitAnd, bitXor, differ, xor-step, and-mod, xor-mod, and-shr, xor-shr, and-zero-r, xor-zero-l}
+use lib.Bits.{bitAnd, bitXor, differ, xor-step, and-mod, xor-mod, and-shr, xor-shr, and-zero-r, and-mask, xor-zero-l}
 use lib.Pow.{pow-pos}
 use Rattle.model.specs.Choice.{_=?_, if_then_else_}
 use Rattle.model.specs.Bits.{bit, bit-cases, by-bits}
-use Rattle.model.specs.Raster.{raster, chosenBit, raster-unique}
+use Rattle.model.specs.Raster.{raster, chosenBit, raster-lt, raster-odd, raster-half, raster-unique}
 
 -- bit by bit over m bits: x's bit where `by` has 0, y's where it has 1
 unfoldable pub choice : ℕ → ℕ → ℕ → ℕ → ℕ
@@ -109,3 +109,53 @@ choose-whole (suc m) x y by hx hy =
     let ih : bitXor (x / 2) (z / 2) ≡ choice m (x / 2) (y / 2) (by / 2) =
     ap (bitXor (x / 2)) e ∙ choose-whole m (x / 2) (y / 2) (by / 2) (omega (arith, pow-suc 2 m)) (omega (arith, pow-suc 2 m)) in
     omega (arith, xor-step x z, choose-bit x y by)
+
+-- ---- blends
+
+-- a number's bits where `keep` has 1, xor `flip`
+abbrev pub blended : (flip keep old : ℕ) → ℕ
+blended flip keep old = bitXor flip (bitAnd old keep)
+
+-- of one pattern and one source value the raster operation is a choice by D, between what they give where D is 0 and where it
+-- is 1
+module _ (code : ℕ) where
+  unfoldable byDestination : ℕ → ℕ → ℕ → ℕ → ℕ
+  byDestination m p s d = choice m (raster m code p s 0) (raster m code p s (2 ^ m - 1)) d
+
+  destination-none : (p s d : ℕ) → byDestination zero p s d ≡ 0
+  unfolding byDestination choice
+  destination-none p s d = refl
+
+  destination-odd : (m p s d : ℕ) → byDestination (suc m) p s d % 2 ≡ chosenBit code (p % 2) (s % 2) (d % 2)
+  unfolding byDestination
+  destination-odd m p s d =
+      let ones : (2 ^ suc m - 1) % 2 ≡ 1 = omega (arith, pow-suc 2 m, pow-pos m) in
+      choice-odd m _ _ d
+      ∙ rw (raster-odd m code p s 0, raster-odd m code p s (2 ^ suc m - 1), ones)
+      (⊎-elim (λ e. rw e) (λ e. rw e) (bit-cases d))
+
+  destination-half : (m p s d : ℕ) → byDestination (suc m) p s d / 2 ≡ byDestination m (p / 2) (s / 2) (d / 2)
+  unfolding byDestination
+  destination-half m p s d =
+      let ones : (2 ^ suc m - 1) / 2 ≡ 2 ^ m - 1 = omega (arith, pow-suc 2 m, pow-pos m) in
+      choice-half m _ _ d ∙ rw (raster-half m code p s 0, raster-half m code p s (2 ^ suc m - 1), ones)
+
+  raster-by-destination : (m p s d : ℕ) → raster m code p s d ≡ choice m (raster m code p s 0) (raster m code p s (2 ^ m - 1)) d
+  unfolding byDestination
+  raster-by-destination = raster-unique code byDestination destination-none destination-odd destination-half
+
+-- so it is a blend of D
+abbrev pub flipOf : (code p s : ℕ) → ℕ
+flipOf code p s = raster 32 code p s 0
+
+abbrev pub keepOf : (code p s : ℕ) → ℕ
+keepOf code p s = bitXor (raster 32 code p s 0) (raster 32 code p s (2 ^ 32 - 1))
+
+pub raster-blended : (code p s d : ℕ) → blended (flipOf code p s) (keepOf code p s) d ≡ raster 32 code p s d
+raster-blended code p s d =
+    choose-whole 32 (raster 32 code p s 0) (raster 32 code p s (2 ^ 32 - 1)) d (raster-lt 32 code p s 0) (raster-lt 32 code p s (2 ^ 32 - 1))
+    ∙ sym (raster-by-destination code 32 p s d)
+
+-- the blend that keeps all
+pub blended-all : (old : ℕ) → blended 0 (2 ^ 32 - 1) old ≡ old % 2 ^ 32
+blended-all old = xor-zero-l _ ∙ and-mask old 32

@@ -2,11 +2,15 @@
 ghost use mathlib.Core.Path.{_≡_};
 ghost use Prim.Native.Nat.{_+_, _*_, _%_, _≤_, _<_};
 ghost use lib.ListN.{length};
+ghost use Rattle.model.specs.Choice.{_<?_, if_then_else_};
 ghost use Rattle.model.specs.Formats.{Depth};
 ghost use Rattle.model.specs.Pixel.{readPixel, storePixel};
 ghost use Rattle.model.specs.Raster.{raster};
 ghost use Rattle.model.specs.Pattern.{patternBit, patternIndex};
-ghost use Rattle.laws.specs.Whole.{mask, choice, byPattern};
+ghost use Rattle.laws.specs.Whole.{mask, choice, byPattern, blended, flipOf, keepOf};
+ghost use Rattle.laws.specs.Patterns.{Turned};
+ghost use Rattle.laws.specs.Changes.{changed};
+ghost use Rattle.laws.specs.Plain.{flipUnless, keepUnless};
 ghost use Rattle.pixel.specs.Prepared.{Prepared};
 
 // ---- bytes
@@ -185,6 +189,49 @@ pub fn paint(f: &mut [u8], op: Operation, depth: usize, at: usize, source: u32)
     put(depth, f, at, value);
 }
 
+// ---- blends
+
+// What becomes of a pixel: its bits where `keep` has 1, xor `flip`.
+pub struct Blend {
+    pub flip: u32,
+    pub keep: u32,
+}
+
+// What a raster code makes of a pixel, for one pattern and one source value.
+pub fn blend_of(code: u32, pattern: u32, source: u32) -> Blend
+    ensures { λ r. ⌜ (r .flip ≡ flipOf code pattern source) × (r .keep ≡ keepOf code pattern source) ⌝ }
+{
+    let op = prepare(code, pattern);
+    let flip = combine(op, source, 0);
+    let set = combine(op, source, 4294967295);
+    Blend {
+        flip,
+        keep: flip ^ set,
+    }
+}
+
+// The same, or, where nothing is to be written, the blend that keeps all.
+pub fn blend_unless(nothing: bool, code: u32, pattern: u32, source: u32) -> Blend
+    ensures { λ r. ⌜ (r .flip ≡ flipUnless nothing code pattern source) × (r .keep ≡ keepUnless nothing code pattern source) ⌝ }
+{
+    if nothing {
+        return Blend {
+            flip: 0,
+            keep: 4294967295,
+        };
+    }
+    blend_of(code, pattern, source)
+}
+
+// Applies a blend to the pixel at a byte of frame memory, at any depth.
+pub fn apply(f: &mut [u8], depth: usize, at: usize, b: Blend)
+    requires { ⌜ (Depth depth) × (at + depth ≤ length (now f)) ⌝ }
+    ensures { λ _. ⌜ now (f .exit) ≡ changed depth (blended (b .flip) (b .keep)) at (now (f .entry)) ⌝ }
+{
+    let old = get(depth, f, at);
+    put(depth, f, at, b.flip ^ (old & b.keep));
+}
+
 // ---- the mono pattern
 
 // The bit of a pattern row and column.
@@ -208,4 +255,24 @@ pub fn pattern_index(negative: bool, low: usize, n: usize) -> usize
         return (low + 8 * n - n) % 8;
     }
     (low + n) % 8
+}
+
+// The word that has a pattern row.
+fn pattern_word(data0: u32, data1: u32, row: usize) -> u32
+    ensures { λ r. ⌜ r ≡ (if row <? 4 then data0 else data1) ⌝ }
+{
+    if row < 4 {
+        return data0;
+    }
+    data1
+}
+
+// The eight bits of a pattern row from a column on and round, bit 7 first. What stands above them is of no account.
+pub fn pattern_bits(data0: u32, data1: u32, row: usize, column: usize) -> u32
+    requires { ⌜ (row < 8) × (column < 8) ⌝ }
+    ensures { λ r. ⌜ Turned data0 data1 row column r ⌝ }
+{
+    let word = pattern_word(data0, data1, row);
+    let byte = (word >> (8 * (row % 4))) % 256;
+    (257 * byte) >> (8 - column)
 }

@@ -1,0 +1,188 @@
+-- Rows of a BLT for which one value serves as the source of every pixel: each pixel's new value is a rule of its old one.
+use Prim.Native.Nat.{ℕ, _+_, _-_, _*_, _%_, _^_, _≤_, _<_}
+use mathlib.Core.Path.{_≡_, refl, sym, ap, _∙_}
+use mathlib.Core.Bool.{Bool, true, false, not}
+use mathlib.Core.List.{List}
+use mathlib.Core.Logic.{_⊎_, inl, inr, ⊎-elim}
+use native.Mathlib.Omega.{arith}
+use native.Mathlib.Nat.{mod-eq-of-lt}
+use lib.Bits.{bitXor}
+use Rattle.model.specs.Bits.{bit}
+use Rattle.model.specs.Choice.{_=?_, if_then_else_, not-both}
+use Rattle.model.specs.Formats.{Depth}
+use Rattle.model.specs.Pixel.{readPixel, storePixel}
+use Rattle.model.specs.Raster.{raster, raster-pattern, raster-pattern-xor}
+use Rattle.model.specs.Rectangle.{pixelByte}
+use Rattle.model.specs.Operands.{drawOperands}
+use Rattle.model.specs.Expansion.{sourceBit, inverted, expand}
+use Rattle.model.specs.BltPixel.{sourceValue, monoBit, withPattern, withSource, operandsAt, drawAt}
+use Rattle.model.specs.declared.Blt.{Blt}
+use Rattle.model.specs.declared.MonoPattern.{MonoPattern}
+use Rattle.model.specs.declared.Operands.the-variants.{Nothing, Values}
+use Rattle.model.specs.declared.Pattern.the-variants.{Solid, Mono}
+use Rattle.model.specs.declared.Source.{Source}
+use Rattle.model.specs.declared.Source.the-variants.{Unselected, Frame, Bits}
+use Rattle.model.specs.declared.SourceValue.the-variants.{Transparent, Value}
+use Rattle.laws.specs.Whole.{blended, flipOf, keepOf, raster-blended, blended-all}
+use Rattle.laws.specs.Pixels.{Bytes, store-low, store-raster, read-lt, store-read}
+use Rattle.laws.specs.Lows.{columnAt}
+use Rattle.laws.specs.Changes.{changed, Changes}
+
+-- ---- the source is not needed
+
+-- a value that gives every pixel what its own source value gives
+pub record Plain (code : ℕ) (s : Source) (value : ℕ) : Type 0 where
+  pub serves : (i j : ℕ) (frame : List ℕ)
+      → (v : ℕ) × (sourceValue s i j frame ≡ Value v) × ((m p d : ℕ) → raster m code p v d ≡ raster m code p value d)
+
+pub plain-unselected : (code color : ℕ) → Plain code (Unselected color) color
+unfolding sourceValue
+plain-unselected code color = record { serves = λ i j frame. (color, refl, λ m p d. refl) }
+
+-- a source that gives every pixel a value
+abbrev pub isOpaque : Source → Bool
+isOpaque (Unselected color) = true
+isOpaque (Frame r) = true
+isOpaque (Bits m) = not (m .transparent)
+
+opaque-value : (s : Source) (i j : ℕ) (frame : List ℕ) → isOpaque s ≡ true → (v : ℕ) × (sourceValue s i j frame ≡ Value v)
+unfolding sourceValue expand
+opaque-value (Unselected color) i j frame e = (_, refl)
+opaque-value (Frame r) i j frame e = (_, refl)
+opaque-value (Bits m) i j frame e = go (inverted (m .inversion) (sourceBit m i j frame) =? 1) (m .transparent) e
+  where
+    go : (a b : Bool) → not b ≡ true → (v : ℕ) × ((if a then Value (m .foreground) else if b then Transparent else Value (m .background)) ≡ Value v)
+    go true b e = (_, refl)
+    go false false e = (_, refl)
+    go false true e = absurd (not-both false e refl)
+
+-- F0h and 5Ah do not look at it
+sourceless : (code : ℕ) → (code ≡ 0xF0) ⊎ (code ≡ 0x5A) → (m p s t d : ℕ) → raster m code p s d ≡ raster m code p t d
+sourceless code c m p s t d =
+    ⊎-elim
+    (λ e. rw e (raster-pattern m p s d ∙ sym (raster-pattern m p t d)))
+    (λ e. rw e (raster-pattern-xor m p s d ∙ sym (raster-pattern-xor m p t d)))
+    c
+
+pub plain-opaque : {code : ℕ} {s : Source} → (code ≡ 0xF0) ⊎ (code ≡ 0x5A) → isOpaque s ≡ true → (value : ℕ) → Plain code s value
+plain-opaque {code} {s} c e value = record {
+  serves = λ i j frame. let o = opaque-value s i j frame e in (o .0, o .1, λ m p d. sourceless code c m p (o .0) value d);
+}
+
+-- ---- what a pixel of one pattern and one source value draws
+
+abbrev pub drawnWith : Blt → (color value at : ℕ) → List ℕ → List ℕ
+drawnWith b color value at frame =
+    storePixel (b .destination .depth) frame at
+    (raster (8 * b .destination .depth) (b .code) color value (readPixel (b .destination .depth) frame at))
+
+-- it is a blend of what stands there
+pub blend-drawn : (b : Blt) → Depth (b .destination .depth) → {flip keep : ℕ} (color value : ℕ) → flip ≡ flipOf (b .code) color value
+    → keep ≡ keepOf (b .code) color value → (at : ℕ) (frame : List ℕ)
+    → drawnWith b color value at frame ≡ changed (b .destination .depth) (blended flip keep) at frame
+blend-drawn b deep {flip} {keep} color value f k at frame =
+    sym (store-raster (b .destination .depth) deep frame at (b .code) color value _)
+    ∙ ap (storePixel (b .destination .depth) frame at) (sym (rw (f, k) (raster-blended (b .code) color value _)))
+
+-- or, where nothing is written, the blend that keeps all
+abbrev pub flipUnless : Bool → (code color value : ℕ) → ℕ
+flipUnless nothing code color value = if nothing then 0 else flipOf code color value
+
+abbrev pub keepUnless : Bool → (code color value : ℕ) → ℕ
+keepUnless nothing code color value = if nothing then 2 ^ 32 - 1 else keepOf code color value
+
+depth-bits : {n : ℕ} → Depth n → 2 ^ (8 * n) ≤ 2 ^ 32
+depth-bits Depth.one = omega arith
+depth-bits Depth.two = omega arith
+depth-bits Depth.four = omega arith
+
+pub unless-drawn : (b : Blt) → Depth (b .destination .depth) → (nothing : Bool) {flip keep : ℕ} (color value : ℕ)
+    → flip ≡ flipUnless nothing (b .code) color value → keep ≡ keepUnless nothing (b .code) color value → (at : ℕ) (frame : List ℕ) → Bytes frame
+    → (if nothing then frame else drawnWith b color value at frame) ≡ changed (b .destination .depth) (blended flip keep) at frame
+unless-drawn b deep true {flip} {keep} color value f k at frame p =
+    let old = readPixel (b .destination .depth) frame at in
+    let e : blended flip keep old ≡ old =
+    rw (f, k) (blended-all old ∙ mod-eq-of-lt (omega (arith, depth-bits deep, read-lt (b .destination .depth) frame at p))) in
+    rw e (sym (store-read (b .destination .depth) frame at p))
+unless-drawn b deep false color value f k at frame p = blend-drawn b deep color value f k at frame
+
+-- ---- solid patterns
+
+raster-fill : (m code p s d : ℕ) → code ≡ 0xF0 → raster m code p s d ≡ p % 2 ^ m
+raster-fill m code p s d e = rw e (raster-pattern m p s d)
+
+module _ (b : Blt) {value : ℕ} (plain : Plain (b .code) (b .source) value) where
+  solid-drawn : {color : ℕ} → b .pattern ≡ Solid color → (i j : ℕ) (frame : List ℕ)
+      → drawAt b i j frame ≡ drawnWith b color value (pixelByte (b .destination) i j) frame
+  unfolding drawAt operandsAt withSource withPattern drawOperands
+  solid-drawn {color} solid i j frame =
+      let v = plain .serves i j frame in
+      rw (solid, v .1) (ap (storePixel (b .destination .depth) frame _) (v .2 _ color _))
+
+  module _ {color : ℕ} (solid : b .pattern ≡ Solid color) (i j n : ℕ) where
+    -- under F0h a row is one value stored at each of its pixels
+    pub fill-changes : b .code ≡ 0xF0 → Changes b i j n (λ x old. color)
+    fill-changes fills = record {
+      draws = λ x l frame p.
+          solid-drawn solid _ j frame
+          ∙ ap (storePixel (b .destination .depth) frame _) (raster-fill (8 * b .destination .depth) (b .code) color value _ fills)
+          ∙ store-low (b .destination .depth) frame _ color;
+    }
+
+    -- under any code it is one blend of each
+    pub blend-changes : Depth (b .destination .depth) → {flip keep : ℕ} → flip ≡ flipOf (b .code) color value
+        → keep ≡ keepOf (b .code) color value → Changes b i j n (λ x. blended flip keep)
+    blend-changes deep f k = record {
+      draws = λ x l frame p. solid-drawn solid _ j frame ∙ blend-drawn b deep color value f k _ frame;
+    }
+
+-- ---- eight bits for eight pixels
+
+-- of two numbers, the one that bit 7 - i mod 8 says: set or clear
+abbrev pub picked : (bits i set clear : ℕ) → ℕ
+picked bits i set clear = if bit bits (7 - i % 8) =? 1 then set else clear
+
+-- each pixel's blend by its bit
+abbrev pub markRule : (bits flip1 keep1 flip0 keep0 : ℕ) → ℕ → ℕ → ℕ
+markRule bits flip1 keep1 flip0 keep0 i = blended (picked bits i flip1 flip0) (picked bits i keep1 keep0)
+
+-- ---- mono patterns
+
+module _ (b : Blt) {value : ℕ} (plain : Plain (b .code) (b .source) value) {p : MonoPattern} (mono : b .pattern ≡ Mono p) where
+  mono-drawn : (i j : ℕ) (frame : List ℕ)
+      → drawAt b i j frame
+      ≡ (if monoBit p (b .destination) i j =? 1 then drawnWith b (p .color1) value (pixelByte (b .destination) i j) frame
+      else if p .transparent then frame
+      else drawnWith b (p .color0) value (pixelByte (b .destination) i j) frame)
+  unfolding drawAt operandsAt withSource withPattern drawOperands
+  mono-drawn i j frame = rw (mono, v .1) (go (monoBit p (b .destination) i j =? 1) (p .transparent))
+    where
+      v : (v : ℕ) × (sourceValue (b .source) i j frame ≡ Value v) × ((m p d : ℕ) → raster m (b .code) p v d ≡ raster m (b .code) p value d)
+      v = plain .serves i j frame
+
+      go : (set nothing : Bool)
+          → drawOperands (b .destination .depth) (b .code) (pixelByte (b .destination) i j)
+          (if set then Values (p .color1) (v .0) else if nothing then Nothing else Values (p .color0) (v .0)) frame
+          ≡ (if set then drawnWith b (p .color1) value (pixelByte (b .destination) i j) frame
+          else if nothing then frame
+          else drawnWith b (p .color0) value (pixelByte (b .destination) i j) frame)
+      go true nothing = ap (storePixel (b .destination .depth) frame _) (v .2 _ (p .color1) _)
+      go false true = refl
+      go false false = ap (storePixel (b .destination .depth) frame _) (v .2 _ (p .color0) _)
+
+  -- a row whose bits, from the lowest pixel up, are the pattern's
+  pub mono-changes : (i j n : ℕ) → Depth (b .destination .depth) → (bits : ℕ) {flip1 keep1 flip0 keep0 : ℕ}
+      → flip1 ≡ flipOf (b .code) (p .color1) value → keep1 ≡ keepOf (b .code) (p .color1) value
+      → flip0 ≡ flipUnless (p .transparent) (b .code) (p .color0) value → keep0 ≡ keepUnless (p .transparent) (b .code) (p .color0) value
+      → ((x : ℕ) → x < n → bit bits (7 - x % 8) ≡ monoBit p (b .destination) (columnAt (b .destination .columns .negative) i n x) j)
+      → Changes b i j n (markRule bits flip1 keep1 flip0 keep0)
+  mono-changes i j n deep bits {flip1} {keep1} {flip0} {keep0} f1 k1 f0 k0 same = record {
+    draws = λ x l frame q.
+        mono-drawn _ j frame ∙ rw (← same x l) (go (bit bits (7 - x % 8) =? 1) _ frame q);
+  }
+    where
+      go : (set : Bool) (at : ℕ) (frame : List ℕ) → Bytes frame
+          → (if set then drawnWith b (p .color1) value at frame else if p .transparent then frame else drawnWith b (p .color0) value at frame)
+          ≡ changed (b .destination .depth) (blended (if set then flip1 else flip0) (if set then keep1 else keep0)) at frame
+      go true at frame q = blend-drawn b deep (p .color1) value f1 k1 at frame
+      go false at frame q = unless-drawn b deep (p .transparent) (p .color0) value f0 k0 at frame q
