@@ -5,8 +5,8 @@ use mathlib.Core.Bool.{Bool, true, false, not}
 use mathlib.Core.List.{List}
 use mathlib.Core.Logic.{_⊎_, inl, inr, ⊎-elim}
 use native.Mathlib.Omega.{arith}
-use native.Mathlib.Nat.{mod-eq-of-lt}
-use lib.Bits.{bitXor}
+use native.Mathlib.Nat.{mod-eq-of-lt, add-mul}
+use lib.ListN.{length}
 use Rattle.model.specs.Bits.{bit}
 use Rattle.model.specs.Choice.{_=?_, if_then_else_, not-both}
 use Rattle.model.specs.Formats.{Depth}
@@ -26,7 +26,8 @@ use Rattle.model.specs.declared.SourceValue.the-variants.{Transparent, Value}
 use Rattle.laws.specs.Whole.{blended, flipOf, keepOf, raster-blended, blended-all}
 use Rattle.laws.specs.Pixels.{Bytes, store-low, store-raster, read-lt, store-read}
 use Rattle.laws.specs.Lows.{columnAt}
-use Rattle.laws.specs.Changes.{changed, Changes}
+use Rattle.laws.specs.Order.{inOrder, order-same, Remain, remain-add}
+use Rattle.laws.specs.Changes.{changed, changedAt, changedRow, length-changed, Changes}
 
 -- ---- the source is not needed
 
@@ -145,6 +146,29 @@ picked bits i set clear = if bit bits (7 - i % 8) =? 1 then set else clear
 -- each pixel's blend by its bit
 abbrev pub markRule : (bits flip1 keep1 flip0 keep0 : ℕ) → ℕ → ℕ → ℕ
 markRule bits flip1 keep1 flip0 keep0 i = blended (picked bits i flip1 flip0) (picked bits i keep1 keep0)
+
+-- the most of n pixels that make whole eights
+abbrev pub wholeEights : ℕ → ℕ
+wholeEights n = n - n % 8
+
+module _ (depth bits flip1 keep1 flip0 keep0 : ℕ) where
+  abbrev rule : ℕ → ℕ → ℕ
+  rule = markRule bits flip1 keep1 flip0 keep0
+
+  -- eight pixels from one whose number is a whole eights are those from number 0
+  eight-at : (i at : ℕ) → i % 8 ≡ 0 → at ≡ i * depth → (row : List ℕ)
+      → changedRow depth rule 8 at row ≡ inOrder (changedAt depth rule 0) (0 + i) 8 row
+  eight-at i at w a =
+      order-same (changedAt depth rule at) (changedAt depth rule 0) 8 0 (0 + i)
+      (λ m l row.
+      let z : (0 + i + m) % 8 ≡ (0 + m) % 8 = omega arith in
+      let y : 0 + (0 + i + m) * depth ≡ at + (0 + m) * depth = omega (arith, add-mul i m depth) in
+      rw (z, y))
+
+  -- eight more of a row whose writer goes by eights
+  pub eights-next : {n : ℕ} {first : List ℕ} {i at : ℕ} {row next : List ℕ} → Remain (changedAt depth rule 0) 0 n first i row
+      → i + 8 ≤ n → i % 8 ≡ 0 → at ≡ i * depth → next ≡ changedRow depth rule 8 at row → Remain (changedAt depth rule 0) 0 n first (i + 8) next
+  eights-next {i = i} {at} {row} r l w a e = remain-add (length-changed depth rule 0) r 8 l (e ∙ eight-at i at w a row)
 
 -- ---- mono patterns
 
