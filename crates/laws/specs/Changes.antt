@@ -5,9 +5,10 @@ use mathlib.Core.Path.{_≡_, refl, sym, ap, _∙_}
 use mathlib.Core.Bool.{Bool, true, false}
 use mathlib.Core.List.{List, [], _∷_, _++_}
 use native.Mathlib.Omega.{arith}
-use native.Mathlib.Nat.{suc-mul, add-assoc, mul-div-cancel, mul-le-mul-right}
+use native.Mathlib.Nat.{suc-mul, add-assoc, mul-div-cancel, mul-le-mul-right, mul-le-mul-left, div-mul-le-self}
 use lib.ListN.{length, getD, set, take, drop, take-append-drop, length-drop, length-set, List·getD-append}
 use lib.Seq.{set-comm, set-append-left, getD-append-add, length-take-le}
+use Rattle.model.specs.Formats.{Depth}
 use Rattle.model.specs.Pixel.{readPixel, storePixel}
 use Rattle.model.specs.Rectangle.{pixelByte}
 use Rattle.model.specs.BltPixel.{drawAt}
@@ -57,6 +58,12 @@ store-store n (suc m) frame a v t w h =
 step-le : (depth m n : ℕ) → m < n → m * depth + depth ≤ n * depth
 step-le depth m n l = omega (arith, suc-mul m depth, mul-le-mul-right depth l)
 
+-- a pixel of a row of so many bytes lies in it
+pub row-room : {depth i size : ℕ} → Depth depth → i < size / depth → (i ≤ i * depth) × (i * depth + depth ≤ size)
+row-room {depth} {i} {size} deep l =
+    let q = depth-least deep in
+    (omega (arith, mul-le-mul-left i q), omega (arith, step-le depth i (size / depth) l, div-mul-le-self size depth))
+
 -- the pixel at a byte of frame memory, changed by a rule
 abbrev pub changed : (depth : ℕ) → (ℕ → ℕ) → (at : ℕ) → List ℕ → List ℕ
 changed depth rule at frame = storePixel depth frame at (rule (readPixel depth frame at))
@@ -72,13 +79,12 @@ pub length-changed : (depth : ℕ) (rule : ℕ → ℕ → ℕ) (a m : ℕ) (fra
 length-changed depth rule a m frame = length-store depth frame _ _
 
 module _ (depth : ℕ) (rule : ℕ → ℕ → ℕ) where
-  -- one more pixel of a row that its writer changes
-  pub change-next : {n : ℕ} {first : List ℕ} {i at : ℕ} {row next : List ℕ} → Remain (changedAt depth rule 0) 0 n first i row → i < n
-      → at ≡ i * depth → next ≡ changed depth (rule i) at row → Remain (changedAt depth rule 0) 0 n first (i + 1) next
-  change-next {i = i} r l a e =
+  -- one more pixel of a row that its writer changes from byte a up
+  pub change-next : (a : ℕ) {n : ℕ} {first : List ℕ} {i at : ℕ} {row next : List ℕ} → Remain (changedAt depth rule a) 0 n first i row → i < n
+      → at ≡ a + i * depth → next ≡ changed depth (rule i) at row → Remain (changedAt depth rule a) 0 n first (i + 1) next
+  change-next a {i = i} r l p e =
       let z : 0 + i ≡ i = omega arith in
-      let y : 0 + i * depth ≡ i * depth = omega arith in
-      remain-next (length-changed depth rule 0) r l (rw (e, a, z, y))
+      remain-next (length-changed depth rule a) r l (rw (e, p, z))
 
   -- a pixel of the second of two lists that stand one after the other, and of the first
   change-after : (m i : ℕ) (xs ys : List ℕ) → changed depth (rule m) (length xs + i) (xs ++ ys) ≡ xs ++ changed depth (rule m) i ys

@@ -1,5 +1,5 @@
 -- Rows of a BLT for which one value serves as the source of every pixel: each pixel's new value is a rule of its old one.
-use Prim.Native.Nat.{ℕ, _+_, _-_, _*_, _%_, _^_, _≤_, _<_}
+use Prim.Native.Nat.{ℕ, _+_, _-_, _*_, _/_, _%_, _^_, _≤_, _<_}
 use mathlib.Core.Path.{_≡_, refl, sym, ap, _∙_}
 use mathlib.Core.Bool.{Bool, true, false, not}
 use mathlib.Core.List.{List}
@@ -26,7 +26,7 @@ use Rattle.model.specs.declared.SourceValue.the-variants.{Transparent, Value}
 use Rattle.laws.specs.Whole.{blended, flipOf, keepOf, raster-blended, blended-all}
 use Rattle.laws.specs.Pixels.{Bytes, store-low, store-raster, read-lt, store-read}
 use Rattle.laws.specs.Lows.{columnAt}
-use Rattle.laws.specs.Order.{inOrder, order-same, Remain, remain-add}
+use Rattle.laws.specs.Order.{inOrder, order-same, order-add, order-length, Remain, remain-add}
 use Rattle.laws.specs.Changes.{changed, changedAt, changedRow, length-changed, Changes}
 
 -- ---- the source is not needed
@@ -169,6 +169,23 @@ module _ (depth bits flip1 keep1 flip0 keep0 : ℕ) where
   pub eights-next : {n : ℕ} {first : List ℕ} {i at : ℕ} {row next : List ℕ} → Remain (changedAt depth rule 0) 0 n first i row
       → i + 8 ≤ n → i % 8 ≡ 0 → at ≡ i * depth → next ≡ changedRow depth rule 8 at row → Remain (changedAt depth rule 0) 0 n first (i + 8) next
   eights-next {i = i} {at} {row} r l w a e = remain-add (length-changed depth rule 0) r 8 l (e ∙ eight-at i at w a row)
+
+  -- the whole eights of a row, then the rest
+  module _ (row : List ℕ) {middle : List ℕ} (e : middle ≡ changedRow depth rule (wholeEights (length row / depth)) 0 row) where
+    same : length middle ≡ length row
+    same = rw e (order-length (changedAt depth rule 0) (length-changed depth rule 0) _ 0 row)
+
+    pub eights-within : wholeEights (length row / depth) ≤ length middle / depth
+    eights-within = rw same (omega arith)
+
+    pub marks-all : {next : List ℕ}
+        → next ≡ inOrder (changedAt depth rule 0) (wholeEights (length row / depth)) (length middle / depth - wholeEights (length row / depth)) middle
+        → next ≡ changedRow depth rule (length row / depth) 0 row
+    marks-all f =
+        let w = wholeEights (length row / depth) in
+        let z : 0 + w ≡ w = omega arith in
+        let all : w + (length row / depth - w) ≡ length row / depth = omega arith in
+        f ∙ rw (same, e) (rw (z, all) at (order-add (changedAt depth rule 0) w 0 (length row / depth - w) row))
 
 -- ---- mono patterns
 

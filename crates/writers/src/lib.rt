@@ -229,13 +229,14 @@ fn rest(row: &mut [u8], depth: usize, k: usize, bits: u32, set: Blend, clear: Bl
     requires { ⌜ (Depth depth) × (k ≤ length (now row) / depth) ⌝ }
     ensures { λ _. ⌜ now (row .exit) ≡ inOrder (changedAt depth (markRule bits (set .flip) (set .keep) (clear .flip) (clear .keep)) 0) k (length (now (row .entry)) / depth - k) (now (row .entry)) ⌝ }
 {
-    let n = row.len() / depth;
-    let mut i = k;
-    while i < n {
+    let n = row.len() / depth - k;
+    let mut m = 0;
+    while m < n {
+        let i = k + m;
         let flip = pick(bits, i, set.flip, clear.flip);
         let keep = pick(bits, i, set.keep, clear.keep);
         pixel::apply(row, depth, i * depth, Blend { flip, keep });
-        i += 1;
+        m += 1;
     }
 }
 
