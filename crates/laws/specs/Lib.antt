@@ -18,4 +18,3 @@ pub mod Rows
 pub mod Lows
 pub mod Changes
 pub mod Plain
-pub mod Fills

@@ -13,6 +13,7 @@ use Rattle.model.specs.Formats.{Depth}
 use Rattle.model.specs.Pixel.{readPixel, storePixel}
 use Rattle.model.specs.Raster.{raster, raster-pattern, raster-pattern-xor}
 use Rattle.model.specs.Rectangle.{pixelByte}
+use Rattle.model.specs.Pattern.{patternBit, patternIndex}
 use Rattle.model.specs.Operands.{drawOperands}
 use Rattle.model.specs.Expansion.{sourceBit, inverted, expand}
 use Rattle.model.specs.BltPixel.{sourceValue, monoBit, withPattern, withSource, operandsAt, drawAt}
@@ -25,7 +26,8 @@ use Rattle.model.specs.declared.Source.the-variants.{Unselected, Frame, Bits}
 use Rattle.model.specs.declared.SourceValue.the-variants.{Transparent, Value}
 use Rattle.laws.specs.Whole.{blended, flipOf, keepOf, raster-blended, blended-all}
 use Rattle.laws.specs.Pixels.{Bytes, store-low, store-raster, read-lt, store-read}
-use Rattle.laws.specs.Lows.{columnAt}
+use Rattle.laws.specs.Patterns.{Turned}
+use Rattle.laws.specs.Lows.{lowColumn, columnAt}
 use Rattle.laws.specs.Order.{inOrder, order-same, order-add, order-length, Remain, remain-add}
 use Rattle.laws.specs.Changes.{changed, changedAt, changedRow, length-changed, Changes}
 
@@ -35,6 +37,10 @@ use Rattle.laws.specs.Changes.{changed, changedAt, changedRow, length-ch
 pub record Plain (code : ℕ) (s : Source) (value : ℕ) : Type 0 where
   pub serves : (i j : ℕ) (frame : List ℕ)
       → (v : ℕ) × (sourceValue s i j frame ≡ Value v) × ((m p d : ℕ) → raster m code p v d ≡ raster m code p value d)
+
+-- there is one
+abbrev pub Served : ℕ → Source → Type 0
+Served code s = (value : ℕ) × Plain code s value
 
 pub plain-unselected : (code color : ℕ) → Plain code (Unselected color) color
 unfolding sourceValue
@@ -211,17 +217,40 @@ module _ (b : Blt) {value : ℕ} (plain : Plain (b .code) (b .source) value) {p 
       go false true = refl
       go false false = ap (storePixel (b .destination .depth) frame _) (v .2 _ (p .color0) _)
 
-  -- a row whose bits, from the lowest pixel up, are the pattern's
+  -- the pattern's column rises with the place, in either direction
+  column-rises : (negative : Bool) (first i n x : ℕ) → x < n
+      → (patternIndex negative first (lowColumn negative i n) + x) % 8 ≡ patternIndex negative first (columnAt negative i n x)
+  unfolding patternIndex
+  column-rises true first i n x l =
+      let low = i + (n - 1) in
+      let here = i + (n - 1 - x) in
+      let e : first + 8 * low - low + x ≡ first + 8 * here - here + 8 * x = omega arith in
+      mod-add (first + 8 * low - low) x ∙ ap (λ (y : ℕ). y % 8) e ∙ whole-eight (first + 8 * here - here) x
+    where
+      mod-add : (a x : ℕ) → (a % 8 + x) % 8 ≡ (a + x) % 8
+      mod-add a x = omega arith
+
+      whole-eight : (a x : ℕ) → (a + 8 * x) % 8 ≡ a % 8
+      whole-eight a x = omega arith
+  column-rises false first i n x l = omega arith
+
+  -- a row whose bits are the pattern row's from the lowest pixel's column on
   pub mono-changes : (i j n : ℕ) → Depth (b .destination .depth) → (bits : ℕ) {flip1 keep1 flip0 keep0 : ℕ}
       → flip1 ≡ flipOf (b .code) (p .color1) value → keep1 ≡ keepOf (b .code) (p .color1) value
       → flip0 ≡ flipUnless (p .transparent) (b .code) (p .color0) value → keep0 ≡ keepUnless (p .transparent) (b .code) (p .color0) value
-      → ((x : ℕ) → x < n → bit bits (7 - x % 8) ≡ monoBit p (b .destination) (columnAt (b .destination .columns .negative) i n x) j)
+      → Turned (p .data0) (p .data1) (patternIndex (b .destination .rows .negative) (p .row) j)
+      (patternIndex (b .destination .columns .negative) (p .column) (lowColumn (b .destination .columns .negative) i n)) bits
       → Changes b i j n (markRule bits flip1 keep1 flip0 keep0)
-  mono-changes i j n deep bits {flip1} {keep1} {flip0} {keep0} f1 k1 f0 k0 same = record {
+  unfolding monoBit
+  mono-changes i j n deep bits {flip1} {keep1} {flip0} {keep0} f1 k1 f0 k0 turned = record {
     draws = λ x l frame q.
-        mono-drawn _ j frame ∙ rw (← same x l) (go (bit bits (7 - x % 8) =? 1) _ frame q);
+        mono-drawn _ j frame
+        ∙ rw (← same x l) (go (bit bits (7 - x % 8) =? 1) _ frame q);
   }
     where
+      same : (x : ℕ) → x < n → bit bits (7 - x % 8) ≡ monoBit p (b .destination) (columnAt (b .destination .columns .negative) i n x) j
+      same x l = turned .turns x ∙ ap (patternBit (p .data0) (p .data1) _) (column-rises (b .destination .columns .negative) (p .column) i n x l)
+
       go : (set : Bool) (at : ℕ) (frame : List ℕ) → Bytes frame
           → (if set then drawnWith b (p .color1) value at frame else if p .transparent then frame else drawnWith b (p .color0) value at frame)
           ≡ changed (b .destination .depth) (blended (if set then flip1 else flip0) (if set then keep1 else keep0)) at frame

@@ -83,9 +83,9 @@ pub fn along(a: Axis, start: usize, m: usize) -> usize
 }
 
 // The lowest of n columns from column i.
-fn low_column(negative: bool, i: usize, n: usize) -> usize
+pub fn low_column(negative: bool, i: usize, n: usize) -> usize
     requires { ⌜ (0 < n) × (i + n < 2 ^ 32) ⌝ }
-    ensures { λ r. ⌜ r ≡ lowColumn negative i n ⌝ }
+    ensures { λ r. ⌜ (r ≡ lowColumn negative i n) × (r < 2 ^ 32) ⌝ }
 {
     if negative {
         return i + (n - 1);

@@ -1,16 +1,17 @@
 // Rows of a BLT: n pixels of row j, from column i. One loop serves every source and pattern; faster ones stand beside it, behind
 // the same contract.
 ghost use mathlib.Core.Path.{_≡_};
-ghost use mathlib.Core.Bool.{true};
-ghost use Prim.Native.Nat.{_+_, _/_, _^_, _<_};
+ghost use Prim.Native.Nat.{_^_, _<_};
 ghost use lib.ListN.{length};
-ghost use Rattle.model.specs.Formats.{Depth};
-ghost use Rattle.model.specs.declared.Pattern.the-variants.{Solid};
-ghost use Rattle.model.specs.declared.Source.the-variants.{Unselected, Frame, Bits};
+ghost use Rattle.model.specs.Pattern.{patternIndex};
+ghost use Rattle.model.specs.declared.Pattern.the-variants.{Solid, Mono};
+ghost use Rattle.model.specs.declared.Source.the-variants.{Frame};
+ghost use Rattle.laws.specs.Ranges.{FitPattern};
+ghost use Rattle.laws.specs.Patterns.{Turned};
 ghost use Rattle.laws.specs.Rows.{Row, rowPixels};
-ghost use Rattle.laws.specs.Fills.{filled, isOpaque, lowColumn};
+ghost use Rattle.laws.specs.Plain.{Plain, Served};
 use model::Blt;
-use model::MonoSource;
+use model::MonoPattern;
 use model::Rectangle;
 
 // Any source and pattern.
@@ -25,24 +26,6 @@ pub fn general(f: &mut [u8], b: Blt, i: usize, j: usize, n: usize)
         let o = operands::at(f, b, x, j);
         let at = rectangle::pixel_byte(d, x, j);
         operands::draw(f, d.depth, b.code, at, o);
-        m += 1;
-    }
-}
-
-// A solid pattern with no source selected.
-pub fn solid(f: &mut [u8], b: Blt, color: u32, value: u32, i: usize, j: usize, n: usize)
-    requires { ⌜ (Row (length (now f)) b i j n) × (0 < n) × (b .pattern ≡ Solid color) × (b .source ≡ Unselected value) ⌝ }
-    ensures { λ _. ⌜ now (f .exit) ≡ rowPixels b i j n (now (f .entry)) ⌝ }
-{
-    let op = pixel::prepare(b.code, color);
-    let first = b.destination;
-    let to = rectangle::pixel_byte(first, i, j);
-    let mut m = 0;
-    while m < n {
-        let d = b.destination;
-        let columns = d.columns;
-        let at = rectangle::along(columns, to, m);
-        pixel::paint(f, op, d.depth, at, value);
         m += 1;
     }
 }
@@ -67,122 +50,55 @@ pub fn solid_source(f: &mut [u8], b: Blt, color: u32, s: Rectangle, i: usize, j:
     }
 }
 
-// A solid pattern with a mono source.
-pub fn solid_bits(f: &mut [u8], b: Blt, color: u32, s: MonoSource, i: usize, j: usize, n: usize)
-    requires { ⌜ (Row (length (now f)) b i j n) × (0 < n) × (b .pattern ≡ Solid color) × (b .source ≡ Bits s) ⌝ }
-    ensures { λ _. ⌜ now (f .exit) ≡ rowPixels b i j n (now (f .entry)) ⌝ }
-{
-    let op = pixel::prepare(b.code, color);
-    let first = b.destination;
-    let to = rectangle::pixel_byte(first, i, j);
-    let bytes = s.bytes;
-    let from = rectangle::pixel_byte(bytes, 0, j);
-    let mut m = 0;
-    while m < n {
-        let d = b.destination;
-        let columns = d.columns;
-        let v = operands::expanded(f, s, from, i + m);
-        let at = rectangle::along(columns, to, m);
-        operands::draw_solid(f, op, d.depth, at, v);
-        m += 1;
-    }
-}
+// ---- rows for which one value serves as the source of every pixel: their bytes are lent to a row writer
 
-// The same under raster operation CCh, which gives the source.
-pub fn copy_bits(f: &mut [u8], b: Blt, color: u32, s: MonoSource, i: usize, j: usize, n: usize)
-    requires { ⌜ (Row (length (now f)) b i j n) × (0 < n) × (b .pattern ≡ Solid color) × (b .source ≡ Bits s) × (b .code ≡ 204) ⌝ }
-    ensures { λ _. ⌜ now (f .exit) ≡ rowPixels b i j n (now (f .entry)) ⌝ }
-{
-    let first = b.destination;
-    let to = rectangle::pixel_byte(first, i, j);
-    let bytes = s.bytes;
-    let from = rectangle::pixel_byte(bytes, 0, j);
-    let mut m = 0;
-    while m < n {
-        let d = b.destination;
-        let columns = d.columns;
-        let v = operands::expanded(f, s, from, i + m);
-        let at = rectangle::along(columns, to, m);
-        operands::store(f, d.depth, at, v);
-        m += 1;
-    }
-}
-
-// ---- solid fills
-
-// Stores a value at each pixel of a row, at one byte a pixel.
-fn fill_row1(row: &mut [u8], value: u32)
-    ensures { λ _. ⌜ now (row .exit) ≡ filled 1 value (length (now (row .entry)) / 1) 0 (now (row .entry)) ⌝ }
-{
-    let n = row.len();
-    let mut i = 0;
-    while i < n {
-        pixel::put1(row, i, value);
-        i += 1;
-    }
-}
-
-// The same at two bytes a pixel.
-fn fill_row2(row: &mut [u8], value: u32)
-    ensures { λ _. ⌜ now (row .exit) ≡ filled 2 value (length (now (row .entry)) / 2) 0 (now (row .entry)) ⌝ }
-{
-    let n = row.len() / 2;
-    let mut i = 0;
-    while i < n {
-        pixel::put2(row, i * 2, value);
-        i += 1;
-    }
-}
-
-// The same at four.
-fn fill_row4(row: &mut [u8], value: u32)
-    ensures { λ _. ⌜ now (row .exit) ≡ filled 4 value (length (now (row .entry)) / 4) 0 (now (row .entry)) ⌝ }
-{
-    let n = row.len() / 4;
-    let mut i = 0;
-    while i < n {
-        pixel::put4(row, i * 4, value);
-        i += 1;
-    }
-}
-
-// The row writer for a depth.
-fn fill_row(row: &mut [u8], depth: usize, value: u32)
-    requires { ⌜ Depth depth ⌝ }
-    ensures { λ _. ⌜ now (row .exit) ≡ filled depth value (length (now (row .entry)) / depth) 0 (now (row .entry)) ⌝ }
-{
-    if depth == 1 {
-        fill_row1(row, value);
-        return;
-    }
-    if depth == 2 {
-        fill_row2(row, value);
-        return;
-    }
-    fill_row4(row, value);
-}
-
-// The lowest of n columns from column i.
-fn low_column(negative: bool, i: usize, n: usize) -> usize
-    requires { ⌜ (0 < n) × (i + n < 2 ^ 32) ⌝ }
-    ensures { λ r. ⌜ (r ≡ lowColumn negative i n) × (r < i + n) ⌝ }
-{
-    if negative {
-        return i + (n - 1);
-    }
-    i
-}
-
-// A solid pattern under raster operation F0h, where the source leaves no pixel out: a part of frame memory that starts at the
-// row's first byte is lent to the row writer.
+// A solid pattern under raster operation F0h.
 pub fn fill(f: &mut [u8], b: Blt, color: u32, i: usize, j: usize, n: usize)
-    requires { ⌜ (Row (length (now f)) b i j n) × (0 < n) × (b .pattern ≡ Solid color) × (b .code ≡ 240) × (isOpaque (b .source) ≡ true) ⌝ }
+    requires { ⌜ (Row (length (now f)) b i j n) × (0 < n) × (b .pattern ≡ Solid color) × (b .code ≡ 240) × (Served (b .code) (b .source)) ⌝ }
     ensures { λ _. ⌜ now (f .exit) ≡ rowPixels b i j n (now (f .entry)) ⌝ }
 {
     let d = b.destination;
+    let a = rectangle::low_byte(d, i, j, n);
+    let e = a + n * d.depth;
+    writers::fill(&mut f[a..e], d.depth, color);
+}
+
+// A solid pattern under any raster operation.
+pub fn blend(f: &mut [u8], b: Blt, color: u32, value: u32, i: usize, j: usize, n: usize)
+    requires { ⌜ (Row (length (now f)) b i j n) × (0 < n) × (b .pattern ≡ Solid color) × (Plain (b .code) (b .source) value) ⌝ }
+    ensures { λ _. ⌜ now (f .exit) ≡ rowPixels b i j n (now (f .entry)) ⌝ }
+{
+    let v = pixel::blend_of(b.code, color, value);
+    let d = b.destination;
+    let a = rectangle::low_byte(d, i, j, n);
+    let e = a + n * d.depth;
+    writers::blend(&mut f[a..e], d.depth, v);
+}
+
+// The bits of a mono pattern for row j, those of column i first.
+fn mono_bits(p: MonoPattern, d: Rectangle, i: usize, j: usize) -> u32
+    requires { ⌜ (FitPattern (Mono p)) × (i < 2 ^ 32) × (j < 2 ^ 32) ⌝ }
+    ensures { λ r. ⌜ Turned (p .data0) (p .data1) (patternIndex (d .rows .negative) (p .row) j) (patternIndex (d .columns .negative) (p .column) i) r ⌝ }
+{
     let columns = d.columns;
-    let low = low_column(columns.negative, i, n);
+    let rows = d.rows;
+    let row = pixel::pattern_index(rows.negative, p.row, j);
+    let column = pixel::pattern_index(columns.negative, p.column, i);
+    pixel::pattern_bits(p.data0, p.data1, row, column)
+}
+
+// A mono pattern under any raster operation.
+pub fn mono(f: &mut [u8], b: Blt, p: MonoPattern, value: u32, i: usize, j: usize, n: usize)
+    requires { ⌜ (Row (length (now f)) b i j n) × (0 < n) × (b .pattern ≡ Mono p) × (Plain (b .code) (b .source) value) ⌝ }
+    ensures { λ _. ⌜ now (f .exit) ≡ rowPixels b i j n (now (f .entry)) ⌝ }
+{
+    let set = pixel::blend_of(b.code, p.color1, value);
+    let clear = pixel::blend_unless(p.transparent, b.code, p.color0, value);
+    let d = b.destination;
+    let columns = d.columns;
+    let low = rectangle::low_column(columns.negative, i, n);
+    let bits = mono_bits(p, d, low, j);
     let a = rectangle::pixel_byte(d, low, j);
     let e = a + n * d.depth;
-    fill_row(&mut f[a..e], d.depth, color);
+    writers::marks(&mut f[a..e], d.depth, bits, set, clear);
 }

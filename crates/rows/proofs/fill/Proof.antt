@@ -1,54 +1,51 @@
-use Prim.Native.Nat.{ℕ}
-use mathlib.Core.Path.{refl, ap, _∙_}
+use mathlib.Core.Path.{refl}
 use native.Mathlib.Omega.{arith}
-use Rattle.model.specs.Rectangle.{pixelByte}
-use Rattle.laws.specs.Rows.{row-reached}
-use Rattle.laws.specs.Fills.{bytes-in, fill-part}
+use Rattle.laws.specs.Lows.{destination-span, low-reached, bytes-in}
+use Rattle.laws.specs.Changes.{changes-part}
+use Rattle.laws.specs.Plain.{fill-changes}
 use borrow.Author.Needs.{needs}
 use Rattle.rows.proofs.fill.Statement.{statement}
 use Rattle.rows.proofs.fill.Tie as tie
 
-low-column-requires : tie.Need-low-column-requires
-low-column-requires c κs = search needs
-
-pixel-byte-requires : tie.Need-pixel-byte-requires
-pixel-byte-requires c κs = row-reached (c .before .before .before .before .pre .0) (c .low-column .ensures .1)
+low-byte-requires : tie.Need-low-byte-requires
+low-byte-requires c κs =
+    (c .before .before .pre .1, omega (arith, c .before .before .pre .0 .columns, c .before .before .pre .0 .fit .destination-fit .ranged .wide-most), low-reached (destination-span (c .before .before .pre .0) (c .before .before .pre .1)))
 
 mul-e : tie.Need-mul-e
-mul-e c = omega (arith, bytes-in (c .before .before .before .before .before .before .pre .0) (c .before .before .before .before .before .before .pre .1) (c .before .pixel-byte .ensures ∙ ap (λ (x : ℕ). pixelByte (c .before .before .before .before .before .before .args .b .destination) x (c .before .before .before .before .before .before .args .j)) (c .before .before .low-column .ensures .0)), c .before .before .before .before .before .before .pre .0 .small)
+mul-e c = omega (arith, bytes-in (destination-span (c .before .before .before .before .pre .0) (c .before .before .before .before .pre .1)) (c .before .low-byte .ensures), c .before .before .before .before .pre .0 .small)
 
 add-e : tie.Need-add-e
-add-e c = omega (arith, bytes-in (c .before .before .before .before .before .before .pre .0) (c .before .before .before .before .before .before .pre .1) (c .before .pixel-byte .ensures ∙ ap (λ (x : ℕ). pixelByte (c .before .before .before .before .before .before .args .b .destination) x (c .before .before .before .before .before .before .args .j)) (c .before .before .low-column .ensures .0)), c .before .before .before .before .before .before .pre .0 .small)
+add-e c = omega (arith, bytes-in (destination-span (c .before .before .before .before .pre .0) (c .before .before .before .before .pre .1)) (c .before .low-byte .ensures), c .before .before .before .before .pre .0 .small)
 
-sub-fill-row : tie.Need-sub-fill-row
-sub-fill-row c = search needs
+sub-fill : tie.Need-sub-fill
+sub-fill c = search needs
 
-part-fill-row-start : tie.Need-part-fill-row-start
-part-fill-row-start c = search needs
+part-fill-start : tie.Need-part-fill-start
+part-fill-start c = search needs
 
-part-fill-row-end : tie.Need-part-fill-row-end
-part-fill-row-end c = bytes-in (c .before .before .before .before .before .before .pre .0) (c .before .before .before .before .before .before .pre .1) (c .before .pixel-byte .ensures ∙ ap (λ (x : ℕ). pixelByte (c .before .before .before .before .before .before .args .b .destination) x (c .before .before .before .before .before .before .args .j)) (c .before .before .low-column .ensures .0))
+part-fill-end : tie.Need-part-fill-end
+part-fill-end c = bytes-in (destination-span (c .before .before .before .before .pre .0) (c .before .before .before .before .pre .1)) (c .before .low-byte .ensures)
 
-fill-row-requires : tie.Need-fill-row-requires
-fill-row-requires c κs = search needs
+fill-requires : tie.Need-fill-requires
+fill-requires c κs = search needs
 
 same-length : tie.Need-same-length
 same-length c = search needs
 
 returns : tie.Need-returns
-returns c = fill-part (c .before .before .before .before .before .before .before .before .before .before .pre .0) (c .before .before .before .before .before .before .before .before .before .before .pre .2) (c .before .before .before .before .before .before .before .before .before .before .pre .3) (c .before .before .before .before .before .before .before .before .before .before .pre .4) (c .before .before .before .before .before .before .before .before .before .before .pre .1) (c .before .before .before .before .before .pixel-byte .ensures ∙ ap (λ (x : ℕ). pixelByte (c .before .before .before .before .before .before .before .before .before .before .args .b .destination) x (c .before .before .before .before .before .before .before .before .before .before .args .j)) (c .before .before .before .before .before .before .low-column .ensures .0)) _ refl (c .before .before .fill-row .ensures)
+returns c =
+    changes-part (c .before .before .before .before .before .before .before .before .pre .0) (c .before .before .before .before .before .before .before .before .pre .1) (fill-changes (c .before .before .before .before .before .before .before .before .args .b) (c .before .before .before .before .before .before .before .before .pre .4 .1) (c .before .before .before .before .before .before .before .before .pre .2) _ _ _ (c .before .before .before .before .before .before .before .before .pre .3)) (c .before .before .before .before .before .low-byte .ensures) _ refl (λ i. c .before .before .before .before .before .before .before .slice-known .given i .fits) (c .before .before .fill .ensures)
 
 pub fill-spec : {M : Type 1} → statement M
 fill-spec =
     tie.close
     (tie.spec
-    low-column-requires
-    pixel-byte-requires
+    low-byte-requires
     mul-e
     add-e
-    sub-fill-row
-    part-fill-row-start
-    part-fill-row-end
-    fill-row-requires
+    sub-fill
+    part-fill-start
+    part-fill-end
+    fill-requires
     same-length
     returns)
