@@ -1,5 +1,6 @@
 // A BLT: what its registers describe, and its pixels drawn row by row.
 ghost use mathlib.Core.Path.{_≡_};
+ghost use mathlib.Core.Bool.{false};
 ghost use Prim.Native.Nat.{_+_, _-_, _≤_, _<_};
 ghost use lib.ListN.{length};
 ghost use Rattle.model.specs.Limits.{frameMost};
@@ -8,11 +9,10 @@ ghost use Rattle.model.specs.Registers.{registerCount, word};
 ghost use Rattle.model.specs.Rectangle.{pixelsOf};
 ghost use Rattle.model.specs.BltPixel.{rectangleOf, monoMode, rowStride, bytesOf, monoSourceOf, patternOf, bltOf};
 ghost use Rattle.model.specs.declared.Pattern.the-variants.{Solid};
-ghost use Rattle.model.specs.declared.Source.the-variants.{Bits};
 ghost use Rattle.laws.specs.Order.{bltPixels};
 ghost use Rattle.laws.specs.Ranges.{FitBlt};
 ghost use Rattle.laws.specs.Rows.{Row, rowPixels};
-ghost use Rattle.laws.specs.Fills.{isOpaque};
+ghost use Rattle.laws.specs.Plain.{sourceless, isPlain, plainValue, Plain};
 use model::Axis;
 use model::BLT_MODE;
 use model::Blt;
@@ -198,65 +198,116 @@ pub fn blt_of(registers: [u32; REGISTERS]) -> Blt
 
 // ---- pixels
 
-// Whether a source gives every pixel a value.
-fn is_opaque(s: Source) -> bool
-    ensures { λ r. ⌜ r ≡ isOpaque s ⌝ }
+// Whether a raster operation gives the same whatever the source.
+fn is_sourceless(code: u32) -> bool
+    ensures { λ r. ⌜ r ≡ sourceless code ⌝ }
+{
+    if code == 0xF0 {
+        return true;
+    }
+    code == 0x5A
+}
+
+// Whether one value serves as the source of every pixel.
+fn is_plain(code: u32, s: Source) -> bool
+    ensures { λ r. ⌜ r ≡ isPlain code s ⌝ }
 {
     match s {
         Source::Unselected(_) => true,
-        Source::Frame(_) => true,
-        Source::Bits(m) => !m.transparent,
-    }
-}
-
-// Draws n pixels of one row of a BLT with a solid pattern and a mono source by the row for its code.
-fn bits_row(f: &mut [u8], b: Blt, color: u32, s: MonoSource, i: usize, j: usize, n: usize)
-    requires { ⌜ (Row (length (now f)) b i j n) × (0 < n) × (b .pattern ≡ Solid color) × (b .source ≡ Bits s) ⌝ }
-    ensures { λ _. ⌜ now (f .exit) ≡ rowPixels b i j n (now (f .entry)) ⌝ }
-{
-    let code = b.code;
-    if code == 0xCC {
-        rows::copy_bits(f, b, color, s, i, j, n);
-        return;
-    }
-    rows::solid_bits(f, b, color, s, i, j, n);
-}
-
-// Draws n pixels of one row of a BLT with a solid pattern by the row for its code and source.
-fn solid_row(f: &mut [u8], b: Blt, color: u32, i: usize, j: usize, n: usize)
-    requires { ⌜ (Row (length (now f)) b i j n) × (0 < n) × (b .pattern ≡ Solid color) ⌝ }
-    ensures { λ _. ⌜ now (f .exit) ≡ rowPixels b i j n (now (f .entry)) ⌝ }
-{
-    let code = b.code;
-    let s = b.source;
-    if code == 0xF0 {
-        let opaque = is_opaque(s);
-        if opaque {
-            rows::fill(f, b, color, i, j, n);
-            return;
+        Source::Frame(_) => is_sourceless(code),
+        Source::Bits(m) => {
+            let sourceless = is_sourceless(code);
+            if sourceless {
+                return !m.transparent;
+            }
+            false
         }
     }
+}
+
+// The value that serves.
+fn plain_value(s: Source) -> u32
+    ensures { λ r. ⌜ r ≡ plainValue s ⌝ }
+{
     match s {
-        Source::Unselected(value) => rows::solid(f, b, color, value, i, j, n),
-        Source::Frame(r) => rows::solid_source(f, b, color, r, i, j, n),
-        Source::Bits(m) => bits_row(f, b, color, m, i, j, n),
+        Source::Unselected(value) => value,
+        Source::Frame(_) => 0,
+        Source::Bits(_) => 0,
     }
 }
 
-// Draws n pixels of one row by the row for its pattern.
-fn draw_row(f: &mut [u8], b: Blt, i: usize, j: usize, n: usize)
-    requires { ⌜ (Row (length (now f)) b i j n) × (0 < n) ⌝ }
+// Draws n pixels of one row with a solid pattern for which one value serves as the source.
+fn solid_row(f: &mut [u8], b: Blt, color: u32, value: u32, i: usize, j: usize, n: usize)
+    requires { ⌜ (Row (length (now f)) b i j n) × (0 < n) × (b .pattern ≡ Solid color) × (Plain (b .code) (b .source) value) ⌝ }
+    ensures { λ _. ⌜ now (f .exit) ≡ rowPixels b i j n (now (f .entry)) ⌝ }
+{
+    let code = b.code;
+    if code == 0xF0 {
+        rows::fill(f, b, color, i, j, n);
+        return;
+    }
+    rows::blend(f, b, color, value, i, j, n);
+}
+
+// Draws n pixels of one row for which one value serves as the source.
+fn plain_row(f: &mut [u8], b: Blt, value: u32, i: usize, j: usize, n: usize)
+    requires { ⌜ (Row (length (now f)) b i j n) × (0 < n) × (Plain (b .code) (b .source) value) ⌝ }
     ensures { λ _. ⌜ now (f .exit) ≡ rowPixels b i j n (now (f .entry)) ⌝ }
 {
     let p = b.pattern;
     match p {
-        Pattern::Solid(color) => solid_row(f, b, color, i, j, n),
+        Pattern::Solid(color) => solid_row(f, b, color, value, i, j, n),
+        Pattern::Mono(m) => rows::mono(f, b, m, value, i, j, n),
+    }
+}
+
+// Draws n pixels of one row with a solid pattern that combines each pixel with its own source value.
+fn combined_row(f: &mut [u8], b: Blt, color: u32, i: usize, j: usize, n: usize)
+    requires { ⌜ (Row (length (now f)) b i j n) × (0 < n) × (b .pattern ≡ Solid color) × (isPlain (b .code) (b .source) ≡ false) ⌝ }
+    ensures { λ _. ⌜ now (f .exit) ≡ rowPixels b i j n (now (f .entry)) ⌝ }
+{
+    let s = b.source;
+    match s {
+        // one value would serve
+        Source::Unselected(_) => {}
+        Source::Frame(r) => rows::solid_source(f, b, color, r, i, j, n),
+        Source::Bits(m) => glyphs::bits(f, b, color, m, i, j, n),
+    }
+}
+
+// Draws n pixels of one row that reads its source: by one move of bytes, or pixel by pixel.
+fn source_row(f: &mut [u8], b: Blt, i: usize, j: usize, n: usize)
+    requires { ⌜ (Row (length (now f)) b i j n) × (0 < n) × (isPlain (b .code) (b .source) ≡ false) ⌝ }
+    ensures { λ _. ⌜ now (f .exit) ≡ rowPixels b i j n (now (f .entry)) ⌝ }
+{
+    let straight = moves::is_straight(f, b, i, j, n);
+    if straight {
+        moves::copy(f, b, i, j, n);
+        return;
+    }
+    let p = b.pattern;
+    match p {
+        Pattern::Solid(color) => combined_row(f, b, color, i, j, n),
         Pattern::Mono(_) => rows::general(f, b, i, j, n),
     }
 }
 
+// Draws n pixels of one row. Each kind of row has one place that calls it: so the compiler lays them all out in the loop below.
+fn draw_row(f: &mut [u8], b: Blt, i: usize, j: usize, n: usize)
+    requires { ⌜ (Row (length (now f)) b i j n) × (0 < n) ⌝ }
+    ensures { λ _. ⌜ now (f .exit) ≡ rowPixels b i j n (now (f .entry)) ⌝ }
+{
+    let s = b.source;
+    let plain = is_plain(b.code, s);
+    if plain {
+        plain_row(f, b, plain_value(s), i, j, n);
+        return;
+    }
+    source_row(f, b, i, j, n);
+}
+
 fn least(x: usize, y: usize) -> usize
-    ensures { λ r. ⌜ (r ≤ x) × (r ≤ y) × (0 < x → 0 < y → 0 < r) ⌝ }
+    ensures { λ r. ⌜ (r ≤ x) × (r ≤ y) × (r < x → r ≡ y) × (0 < x → 0 < y → 0 < r) ⌝ }
 {
     if x < y {
         return x;
@@ -269,15 +320,17 @@ pub fn draw(f: &mut [u8], b: Blt, k: usize, n: usize)
     requires { ⌜ (FitBlt (length (now f)) b) × (k + n ≤ pixelsOf (b .destination)) × (length (now f) ≤ frameMost) ⌝ }
     ensures { λ _. ⌜ now (f .exit) ≡ bltPixels b k n (now (f .entry)) ⌝ }
 {
+    let d = b.destination;
+    let columns = d.columns;
+    let width = columns.count;
+    let mut i = k % width;
+    let mut j = k / width;
     let mut m = 0;
     while m < n {
-        let d = b.destination;
-        let columns = d.columns;
-        let width = columns.count;
-        let at = k + m;
-        let i = at % width;
         let c = least(n - m, width - i);
-        draw_row(f, b, i, at / width, c);
+        draw_row(f, b, i, j, c);
+        i = 0;
+        j += 1;
         m += c;
     }
 }

@@ -1,9 +1,9 @@
 -- The columns and rows of pixels that are counted row by row, and which of two numbers is less.
-use Prim.Native.Nat.{ℕ, zero, suc, _+_, _*_, _/_, _%_, _≤_, _<_}
+use Prim.Native.Nat.{ℕ, zero, suc, _+_, _-_, _*_, _/_, _%_, _≤_, _<_}
 use mathlib.Core.Path.{_≡_, _∙_}
 use mathlib.Core.Logic.{_⊎_, inl, inr, ⊎-elim}
 use native.Mathlib.Omega.{arith}
-use native.Mathlib.Nat.{mul-le-mul-right, mod-eq-of-lt, mul-add-mod-self-right, mul-add-div-right, div-eq-of-lt, div-lt-iff-lt-mul, div-add-mod', add-zero, mul-comm}
+use native.Mathlib.Nat.{mul-le-mul-right, mod-eq-of-lt, mul-add-mod-self-right, mul-add-div-right, div-eq-of-lt, div-lt-iff-lt-mul, div-add-mod', add-zero, add-mul, mul-comm, mod-lt}
 
 pub less-or-not : (m n : ℕ) → (m < n) ⊎ (n ≤ m)
 less-or-not m zero = inr (omega arith)
@@ -37,3 +37,14 @@ module _ (w k n : ℕ) (l : k % w + n < w) where
 
   pub row-add : (k + n) / w ≡ k / w
   row-add = rw split (row-is w (k / w) (k % w + n) l)
+
+-- and from there to the first of the next row
+module _ (w k : ℕ) (wide : 0 < w) where
+  to-next : k + (w - k % w) ≡ (k / w + 1) * w + 0
+  to-next = omega (arith, div-add-mod' k w, mod-lt k wide, add-mul (k / w) 1 w)
+
+  pub column-next : (k + (w - k % w)) % w ≡ 0
+  column-next = rw to-next (column-is w (k / w + 1) 0 wide)
+
+  pub row-next : (k + (w - k % w)) / w ≡ k / w + 1
+  row-next = rw to-next (row-is w (k / w + 1) 0 wide)

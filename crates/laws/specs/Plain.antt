@@ -1,14 +1,15 @@
 -- Rows of a BLT for which one value serves as the source of every pixel: each pixel's new value is a rule of its old one.
 use Prim.Native.Nat.{ℕ, _+_, _-_, _*_, _/_, _%_, _^_, _≤_, _<_}
 use mathlib.Core.Path.{_≡_, refl, sym, ap, _∙_}
-use mathlib.Core.Bool.{Bool, true, false, not}
+use mathlib.Core.Bool.{Bool, true, false, not, _&&_, _||_}
 use mathlib.Core.List.{List}
 use mathlib.Core.Logic.{_⊎_, inl, inr, ⊎-elim}
 use native.Mathlib.Omega.{arith}
 use native.Mathlib.Nat.{mod-eq-of-lt, add-mul}
 use lib.ListN.{length}
 use Rattle.model.specs.Bits.{bit}
-use Rattle.model.specs.Choice.{_=?_, if_then_else_, not-both}
+use borrow.Author.Tests.{eqb-true}
+use Rattle.model.specs.Choice.{_=?_, if_then_else_, not-both, both, either}
 use Rattle.model.specs.Formats.{Depth}
 use Rattle.model.specs.Pixel.{readPixel, storePixel}
 use Rattle.model.specs.Raster.{raster, raster-pattern, raster-pattern-xor}
@@ -42,10 +43,6 @@ pub record Plain (code : ℕ) (s : Source) (value : ℕ) : Type 0 where
 abbrev pub Served : ℕ → Source → Type 0
 Served code s = (value : ℕ) × Plain code s value
 
-pub plain-unselected : (code color : ℕ) → Plain code (Unselected color) color
-unfolding sourceValue
-plain-unselected code color = record { serves = λ i j frame. (color, refl, λ m p d. refl) }
-
 -- a source that gives every pixel a value
 abbrev pub isOpaque : Source → Bool
 isOpaque (Unselected color) = true
@@ -64,17 +61,44 @@ opaque-value (Bits m) i j frame e = go (inverted (m .inversion) (sourceBit m i j
     go false true e = absurd (not-both false e refl)
 
 -- F0h and 5Ah do not look at it
-sourceless : (code : ℕ) → (code ≡ 0xF0) ⊎ (code ≡ 0x5A) → (m p s t d : ℕ) → raster m code p s d ≡ raster m code p t d
-sourceless code c m p s t d =
+unread : (code : ℕ) → (code ≡ 0xF0) ⊎ (code ≡ 0x5A) → (m p s t d : ℕ) → raster m code p s d ≡ raster m code p t d
+unread code c m p s t d =
     ⊎-elim
     (λ e. rw e (raster-pattern m p s d ∙ sym (raster-pattern m p t d)))
     (λ e. rw e (raster-pattern-xor m p s d ∙ sym (raster-pattern-xor m p t d)))
     c
 
-pub plain-opaque : {code : ℕ} {s : Source} → (code ≡ 0xF0) ⊎ (code ≡ 0x5A) → isOpaque s ≡ true → (value : ℕ) → Plain code s value
-plain-opaque {code} {s} c e value = record {
-  serves = λ i j frame. let o = opaque-value s i j frame e in (o .0, o .1, λ m p d. sourceless code c m p (o .0) value d);
-}
+-- so where the source gives every pixel a value, any serves; and where none is selected, its colour does
+abbrev pub sourceless : ℕ → Bool
+sourceless code = code =? 0xF0 || code =? 0x5A
+
+abbrev pub isPlain : ℕ → Source → Bool
+isPlain code (Unselected color) = true
+isPlain code (Frame r) = sourceless code && isOpaque (Frame r)
+isPlain code (Bits m) = sourceless code && isOpaque (Bits m)
+
+abbrev pub plainValue : Source → ℕ
+plainValue (Unselected color) = color
+plainValue (Frame r) = 0
+plainValue (Bits m) = 0
+
+opaque-plain : (code : ℕ) (s : Source) → sourceless code && isOpaque s ≡ true → Plain code s 0
+opaque-plain code s e =
+    let p = both (sourceless code) (isOpaque s) e in
+    let c = ⊎-elim (λ f. inl (eqb-true code 0xF0 f)) (λ f. inr (eqb-true code 0x5A f)) (either (code =? 0xF0) (code =? 0x5A) (p .0)) in
+    record {
+      serves = λ i j frame. let o = opaque-value s i j frame (p .1) in (o .0, o .1, λ m p d. unread code c m p (o .0) 0 d);
+    }
+
+pub plain : (code : ℕ) (s : Source) → isPlain code s ≡ true → Plain code s (plainValue s)
+unfolding sourceValue
+plain code (Unselected color) e = record { serves = λ i j frame. (color, refl, λ m p d. refl) }
+plain code (Frame r) e = opaque-plain code (Frame r) e
+plain code (Bits m) e = opaque-plain code (Bits m) e
+
+-- where its values are needed, one is selected
+pub needed-selected : (code : ℕ) {s : Source} {color : ℕ} → isPlain code s ≡ false → s ≡ Unselected color → ⊥
+needed-selected code e f = not-both true refl (rw f at e)
 
 -- ---- what a pixel of one pattern and one source value draws
 

@@ -1,5 +1,5 @@
 -- Pixels of one row of a BLT: where they lie, what one of them draws, and a row as a part of the whole.
-use Prim.Native.Nat.{ℕ, _+_, _-_, _*_, _^_, _≤_, _<_}
+use Prim.Native.Nat.{ℕ, _+_, _-_, _*_, _%_, _^_, _≤_, _<_}
 use mathlib.Core.Path.{_≡_, refl, sym, ap, _∙_}
 use mathlib.Core.List.{List}
 use native.Mathlib.Omega.{arith}
@@ -26,9 +26,9 @@ use Rattle.model.specs.declared.Source.the-variants.{Unselected, Frame, Bits}
 use Rattle.model.specs.declared.SourceValue.{SourceValue}
 use Rattle.model.specs.declared.SourceValue.the-variants.{Transparent, Value}
 use Rattle.laws.specs.Pixels.{store-low, length-store}
-use Rattle.laws.specs.Order.{inOrder, bltPixels, order-same}
+use Rattle.laws.specs.Order.{inOrder, bltPixels, order-same, Remain, remain-all, remain-add}
 use Rattle.laws.specs.Ranges.{Matches, FitBits, FitSource, FitBlt}
-use Rattle.laws.specs.Numbers.{row-lt, column-add, row-add}
+use Rattle.laws.specs.Numbers.{row-lt, column-add, row-add, column-next, row-next}
 use Rattle.laws.specs.Extremes.{Reached, Within, within, byte-on, Along, along, along-at}
 
 -- ---- where pixels lie
@@ -178,20 +178,6 @@ pub record Row (size : ℕ) (b : Blt) (i j n : ℕ) : Type 0 where
   pub row : j < b .destination .rows .count
   pub small : size ≤ frameMost
 
--- the pixels from pixel k on that are of its row
-pub row-part : {size : ℕ} {b : Blt} → FitBlt size b → size ≤ frameMost → {k n : ℕ} → k < pixelsOf (b .destination)
-    → n ≤ b .destination .columns .count - columnOf (b .destination) k → {now : ℕ} → now ≡ size
-    → Row now b (columnOf (b .destination) k) (rowOf (b .destination) k) n
-row-part {b = b} fit small {k} l p e =
-    let wide = fit .destination-fit .ranged .wide in
-    rw e
-    (record {
-      fit = fit;
-      columns = omega (arith, mod-lt k wide);
-      row = row-lt _ (b .destination .rows .count) k wide l;
-      small = small;
-    })
-
 module _ {size : ℕ} {b : Blt} {i j n : ℕ} (r : Row size b i j n) where
   pub row-pixel : {x : ℕ} → x < i + n → {now : ℕ} → now ≡ size → PixelOf now b x j
   row-pixel l e = rw e (record { fit = r .fit; column = omega (arith, r .columns); row = r .row })
@@ -242,3 +228,52 @@ module _ {size : ℕ} {b : Blt} {i j n : ℕ} (r : Row size b i j n) where
           → expand s (bitAt (s .skip) from (i + m) frame) ≡ sourceValue (b .source) (i + m) j frame
       unfolding sourceValue
       bits-read g frame = rw f (ap (expand s) (bit-at bits-within g frame))
+
+-- ---- a BLT row by row
+
+-- in the middle: m of n pixels from pixel k are drawn, and column i of row j is next
+pub record ByRows (b : Blt) (k n : ℕ) (first : List ℕ) (i j m : ℕ) (frame : List ℕ) : Type 0 where
+  pub remain : Remain (drawBlt b) k n first m frame
+  pub narrow : i < b .destination .columns .count
+  pub column : m < n → i ≡ columnOf (b .destination) (k + m)
+  pub row : m < n → j ≡ rowOf (b .destination) (k + m)
+
+pub rows-all : {size : ℕ} {b : Blt} → FitBlt size b → {k n : ℕ} (frame : List ℕ)
+    → ByRows b k n frame (columnOf (b .destination) k) (rowOf (b .destination) k) 0 frame
+rows-all {b = b} fit {k} frame =
+    let z : k + 0 ≡ k = omega arith in
+    record {
+      remain = remain-all frame;
+      narrow = mod-lt k (fit .destination-fit .ranged .wide);
+      column = λ l. rw z;
+      row = λ l. rw z;
+    }
+
+module _ {b : Blt} {k n : ℕ} {first : List ℕ} {i j m : ℕ} {frame : List ℕ} (r : ByRows b k n first i j m frame) where
+  module _ (l : m < n) {c : ℕ} (p : c ≤ b .destination .columns .count - i) where
+    -- c pixels from there on, of the same row
+    pub rows-part : FitBlt (length first) b → length first ≤ frameMost → k + n ≤ pixelsOf (b .destination) → Row (length frame) b i j c
+    rows-part fit small inside =
+        rw (r .remain .same)
+        (record {
+          fit = fit;
+          columns = omega (arith, r .narrow);
+          row = rw (r .row l) (row-lt _ (b .destination .rows .count) (k + m) (fit .destination-fit .ranged .wide) (omega arith));
+          small = small;
+        })
+
+    -- and after them the next row, or none
+    pub rows-next : c ≤ n - m → (c < n - m → c ≡ b .destination .columns .count - i) → {next : List ℕ} → next ≡ rowPixels b i j c frame
+        → ByRows b k n first 0 (j + 1) (m + c) next
+    rows-next q whole {next} e =
+        let w = b .destination .columns .count in
+        let at = k + m in
+        let drawn : next ≡ bltPixels b at c frame =
+        e ∙ rw (r .column l, r .row l) (row-pixels b at c frame (omega (arith, r .column l, r .narrow))) in
+        let on : m + c < n → k + (m + c) ≡ at + (w - at % w) = λ t. omega (arith, whole (omega arith), r .column l) in
+        record {
+          remain = remain-add (length-drawn b) (r .remain) c (omega arith) drawn;
+          narrow = omega (arith, r .narrow);
+          column = λ t. rw (on t) (sym (column-next w at (omega (arith, r .narrow))));
+          row = λ t. rw (on t, r .row l) (sym (row-next w at (omega (arith, r .narrow))));
+        }

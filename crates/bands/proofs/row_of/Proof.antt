@@ -1,0 +1,16 @@
+use borrow.Author.Needs.{needs}
+use native.Mathlib.Nat.{zero-div}
+use Rattle.bands.proofs.row_of.Statement.{statement}
+use Rattle.bands.proofs.row_of.Tie as tie
+
+returns : tie.Need-returns
+returns c = rw (c .if1 .taken, zero-div)
+
+div-result : tie.Need-div-result
+div-result c = search needs
+
+returns-2 : tie.Need-returns-2
+returns-2 c = search needs
+
+pub row-of-spec : {M : Type 1} → statement M
+row-of-spec = tie.close (tie.spec returns div-result returns-2)

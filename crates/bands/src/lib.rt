@@ -1,0 +1,150 @@
+// The rows of a BLT, one after the other: n pixels from pixel k, by the row for its kind. Each kind has a loop of its own, so that
+// what it makes ready is made ready once, and for no other kind.
+ghost use mathlib.Core.Path.{_≡_};
+ghost use Prim.Native.Nat.{_+_, _/_, _%_, _≤_, _<_};
+ghost use lib.ListN.{length};
+ghost use Rattle.model.specs.Limits.{frameMost};
+ghost use Rattle.model.specs.Rectangle.{pixelsOf};
+ghost use Rattle.model.specs.declared.Pattern.the-variants.{Solid, Mono};
+ghost use Rattle.model.specs.declared.Source.the-variants.{Frame, Bits};
+ghost use Rattle.laws.specs.Order.{bltPixels};
+ghost use Rattle.laws.specs.Ranges.{FitBlt};
+ghost use Rattle.laws.specs.Plain.{Plain, Served};
+use model::Blt;
+use model::MonoPattern;
+use model::Rectangle;
+
+// ---- where a span begins, and how much of it is of one row
+
+// The column of pixel k, most often 0.
+fn column_of(k: usize, width: usize) -> usize
+    requires { ⌜ 0 < width ⌝ }
+    ensures { λ r. ⌜ r ≡ k % width ⌝ }
+{
+    if k == 0 {
+        return 0;
+    }
+    k % width
+}
+
+// Its row.
+fn row_of(k: usize, width: usize) -> usize
+    requires { ⌜ 0 < width ⌝ }
+    ensures { λ r. ⌜ r ≡ k / width ⌝ }
+{
+    if k == 0 {
+        return 0;
+    }
+    k / width
+}
+
+fn least(x: usize, y: usize) -> usize
+    ensures { λ r. ⌜ (r ≤ x) × (r ≤ y) × (r < x → r ≡ y) × (0 < x → 0 < y → 0 < r) ⌝ }
+{
+    if x < y {
+        return x;
+    }
+    y
+}
+
+// ---- the kinds
+
+// A solid pattern under raster operation F0h, where one value serves as the source.
+pub fn fill(f: &mut [u8], b: Blt, color: u32, k: usize, n: usize)
+    requires { ⌜ (FitBlt (length (now f)) b) × (k + n ≤ pixelsOf (b .destination)) × (length (now f) ≤ frameMost) × (b .pattern ≡ Solid color) × (b .code ≡ 240) × (Served (b .code) (b .source)) ⌝ }
+    ensures { λ _. ⌜ now (f .exit) ≡ bltPixels b k n (now (f .entry)) ⌝ }
+{
+    let d = b.destination;
+    let columns = d.columns;
+    let width = columns.count;
+    let mut i = column_of(k, width);
+    let mut j = row_of(k, width);
+    let mut m = 0;
+    while m < n {
+        let c = least(n - m, width - i);
+        rows::fill(f, b, color, i, j, c);
+        i = 0;
+        j += 1;
+        m += c;
+    }
+}
+
+// A solid pattern under any raster operation, where one value serves as the source.
+pub fn blend(f: &mut [u8], b: Blt, color: u32, value: u32, k: usize, n: usize)
+    requires { ⌜ (FitBlt (length (now f)) b) × (k + n ≤ pixelsOf (b .destination)) × (length (now f) ≤ frameMost) × (b .pattern ≡ Solid color) × (Plain (b .code) (b .source) value) ⌝ }
+    ensures { λ _. ⌜ now (f .exit) ≡ bltPixels b k n (now (f .entry)) ⌝ }
+{
+    let d = b.destination;
+    let columns = d.columns;
+    let width = columns.count;
+    let mut i = column_of(k, width);
+    let mut j = row_of(k, width);
+    let mut m = 0;
+    while m < n {
+        let c = least(n - m, width - i);
+        rows::blend(f, b, color, value, i, j, c);
+        i = 0;
+        j += 1;
+        m += c;
+    }
+}
+
+// A mono pattern, where one value serves as the source.
+pub fn mono(f: &mut [u8], b: Blt, p: MonoPattern, value: u32, k: usize, n: usize)
+    requires { ⌜ (FitBlt (length (now f)) b) × (k + n ≤ pixelsOf (b .destination)) × (length (now f) ≤ frameMost) × (b .pattern ≡ Mono p) × (Plain (b .code) (b .source) value) ⌝ }
+    ensures { λ _. ⌜ now (f .exit) ≡ bltPixels b k n (now (f .entry)) ⌝ }
+{
+    let d = b.destination;
+    let columns = d.columns;
+    let width = columns.count;
+    let mut i = column_of(k, width);
+    let mut j = row_of(k, width);
+    let mut m = 0;
+    while m < n {
+        let c = least(n - m, width - i);
+        rows::mono(f, b, p, value, i, j, c);
+        i = 0;
+        j += 1;
+        m += c;
+    }
+}
+
+// A solid pattern with a source in frame memory.
+pub fn combine(f: &mut [u8], b: Blt, color: u32, s: Rectangle, k: usize, n: usize)
+    requires { ⌜ (FitBlt (length (now f)) b) × (k + n ≤ pixelsOf (b .destination)) × (length (now f) ≤ frameMost) × (b .pattern ≡ Solid color) × (b .source ≡ Frame s) ⌝ }
+    ensures { λ _. ⌜ now (f .exit) ≡ bltPixels b k n (now (f .entry)) ⌝ }
+{
+    let d = b.destination;
+    let columns = d.columns;
+    let width = columns.count;
+    let mut i = column_of(k, width);
+    let mut j = row_of(k, width);
+    let mut m = 0;
+    while m < n {
+        let c = least(n - m, width - i);
+        rows::solid_source(f, b, color, s, i, j, c);
+        i = 0;
+        j += 1;
+        m += c;
+    }
+}
+
+// Any source and pattern.
+pub fn general(f: &mut [u8], b: Blt, k: usize, n: usize)
+    requires { ⌜ (FitBlt (length (now f)) b) × (k + n ≤ pixelsOf (b .destination)) × (length (now f) ≤ frameMost) ⌝ }
+    ensures { λ _. ⌜ now (f .exit) ≡ bltPixels b k n (now (f .entry)) ⌝ }
+{
+    let d = b.destination;
+    let columns = d.columns;
+    let width = columns.count;
+    let mut i = column_of(k, width);
+    let mut j = row_of(k, width);
+    let mut m = 0;
+    while m < n {
+        let c = least(n - m, width - i);
+        rows::general(f, b, i, j, c);
+        i = 0;
+        j += 1;
+        m += c;
+    }
+}
