@@ -1,5 +1,5 @@
 -- n pixels of one row of a rectangle, by their places from the lowest byte up: with X negative the last column lies lowest.
-use Prim.Native.Nat.{ℕ, suc, _+_, _-_, _*_, _≤_, _<_}
+use Prim.Native.Nat.{ℕ, suc, _+_, _-_, _*_, _^_, _≤_, _<_}
 use mathlib.Core.Path.{_≡_, refl}
 use mathlib.Core.Bool.{Bool, true, false}
 use native.Mathlib.Omega.{arith}
@@ -60,6 +60,10 @@ module _ {size : ℕ} {q : Rectangle} {i j n : ℕ} (s : Span size q i j n) wher
 
   pub low-reached : Reached q (lowColumn (q .columns .negative) i n) j
   low-reached = span-within (low-in (q .columns .negative)) .reached
+
+  -- what the code that finds the lowest byte asks
+  pub low-asked : (0 < n) × (i + n < 2 ^ 32) × (Reached q (lowColumn (q .columns .negative) i n) j)
+  low-asked = (s .some, omega (arith, s .columns, s .fit .ranged .wide-most), low-reached)
 
   -- the byte of the pixel at place x
   pub place-byte : {a : ℕ} → a ≡ lowByte q i j n → (x : ℕ) → x < n

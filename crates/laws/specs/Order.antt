@@ -3,6 +3,7 @@ use Prim.Native.Nat.{ℕ, zero, suc, _+_, _-_, _≤_, _<_}
 use mathlib.Core.Path.{_≡_, refl, sym, ap, _∙_}
 use mathlib.Core.List.{List}
 use native.Mathlib.Omega.{arith}
+use native.Mathlib.Numerals.{add-one}
 use lib.ListN.{length}
 use Rattle.model.specs.BltPixel.{drawBlt}
 use Rattle.model.specs.VectorPixel.{drawVector}
@@ -41,6 +42,11 @@ module _ (draw : ℕ → List ℕ → List ℕ) where
       let e : k + suc n ≡ k + 1 + n = omega arith in
       let z : suc n + m ≡ suc (n + m) = omega arith in
       rw (e, z) (order-add n (k + 1) m (draw k frame))
+
+  -- the last of n + 1 pixels, over what those before it left
+  pub order-last : (k n : ℕ) (frame : List ℕ) → inOrder draw k (suc n) frame ≡ draw (k + n) (inOrder draw k n frame)
+  unfolding inOrder
+  order-last k n frame = sym (rw (add-one n) at (order-add n k 1 frame))
 
   pub order-length : ((k : ℕ) (frame : List ℕ) → length (draw k frame) ≡ length frame) → (n k : ℕ) (frame : List ℕ)
       → length (inOrder draw k n frame) ≡ length frame
