@@ -18,3 +18,5 @@ pub mod Rows
 pub mod Lows
 pub mod Changes
 pub mod Plain
+pub mod Moves
+pub mod Fills
