@@ -19,4 +19,3 @@ pub mod Lows
 pub mod Changes
 pub mod Plain
 pub mod Moves
-pub mod Fills
