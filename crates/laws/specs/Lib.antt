@@ -19,3 +19,4 @@ pub mod Lows
 pub mod Changes
 pub mod Plain
 pub mod Moves
+pub mod Glyphs
