@@ -8,11 +8,10 @@ use mathlib.Core.Logic.{_⊎_, inl, inr, ⊎-elim}
 use native.Mathlib.Omega.{arith}
 use native.Mathlib.Nat.{zero-mul, suc-mul, mul-le-mul-right}
 use native.Mathlib.Numerals.{add-one}
-use borrow.Author.Tests.{ltb-true, ltb-false}
 use lib.ListN.{length, getD, set, take, drop, length-drop, length-set}
 use lib.Seq.{getD-set-same, getD-set-other, getD-drop, ext-getD, paste-zero, paste-suc}
 use Rattle.model.specs.Limits.{sideMost}
-use Rattle.model.specs.Choice.{_=?_, _<?_, if_then_else_, true-or-false, not-both}
+use Rattle.model.specs.Choice.{_=?_, if_then_else_, not-both}
 use Rattle.model.specs.Pixel.{readPixel, storePixel}
 use Rattle.model.specs.Raster.{raster, raster-source}
 use Rattle.model.specs.Rectangle.{pixelByte}
@@ -24,8 +23,9 @@ use Rattle.model.specs.declared.Pattern.{Pattern}
 use Rattle.model.specs.declared.Pattern.the-variants.{Solid, Mono}
 use Rattle.model.specs.declared.Rectangle.{Rectangle}
 use Rattle.model.specs.declared.Source.the-variants.{Frame}
-use Rattle.laws.specs.Pixels.{store-low}
+use Rattle.laws.specs.Pixels.{Bytes, read-same, store-low}
 use Rattle.laws.specs.Order.{inOrder, order-last}
+use Rattle.laws.specs.Numbers.{less-or-not}
 use Rattle.laws.specs.Ranges.{Matches, across-most}
 use Rattle.laws.specs.Rows.{Row, rowPixels}
 use Rattle.laws.specs.Lows.{columnAt, lowByte, Span, destination-span, source-span, place-byte, bytes-in}
@@ -36,19 +36,12 @@ use Rattle.laws.specs.Lows.{columnAt, lowByte, Span, destination-span, s
 unfoldable pub moved : (from to n : ℕ) → List ℕ → List ℕ
 moved from to n frame = take to frame ++ take n (drop from frame) ++ drop (to + n) frame
 
--- every element is a byte
-abbrev pub Bytes : List ℕ → Type 0
-Bytes frame = (i : ℕ) → getD frame i 0 < 256
-
 -- of the bytes of `first` from `from` on, those from number a up to e are laid into `frame` from `to` on: that is `next`
 pub record Laid (first : List ℕ) (from to a e : ℕ) (frame next : List ℕ) : Type 0 where
   pub same : length next ≡ length frame
   pub inside : (t : ℕ) → a ≤ t → t < e → getD next (to + t) 0 ≡ getD first (from + t) 0
   pub below : (x : ℕ) → x < to + a → getD next x 0 ≡ getD frame x 0
   pub above : (x : ℕ) → to + e ≤ x → getD next x 0 ≡ getD frame x 0
-
-less-or-not : (m n : ℕ) → (m < n) ⊎ (n ≤ m)
-less-or-not m n = ⊎-elim (λ e. inl (ltb-true m n e)) (λ e. inr (ltb-false m n e)) (true-or-false (m <? n))
 
 module _ {first : List ℕ} {from to : ℕ} where
   -- there is one such list
@@ -137,13 +130,6 @@ laid-moved from to (suc n) frame p q =
 
 -- ---- pixels that are copied one after the other
 
-read-same : (n : ℕ) (next frame : List ℕ) {p : ℕ} → ((x : ℕ) → p ≤ x → x < p + n → getD next x 0 ≡ getD frame x 0)
-    → readPixel n next p ≡ readPixel n frame p
-unfolding readPixel
-read-same zero next frame h = refl
-read-same (suc n) next frame {p} h =
-    rw (h p (omega arith) (omega arith), read-same n next frame {p = p + 1} (λ x l q. h x (omega arith) (omega arith)))
-
 -- x is none of the n bytes from y on, but perhaps the first
 abbrev pub Beside : (x y n : ℕ) → Type 0
 Beside x y n = (x ≤ y) ⊎ (y + n ≤ x)
@@ -170,8 +156,8 @@ module _ (depth n from to : ℕ) (frame : List ℕ) (bytes : Bytes frame) (room 
       let s = suc-mul x depth in
       let t = mul-le-mul-right depth l in
       rw
-      (read-same depth next frame {p = from + x * depth}
-      (λ y p q. ⊎-elim (λ h. laid .below y (omega arith)) (λ h. laid .above y (omega arith)) c))
+      (read-same depth next frame (from + x * depth) (from + x * depth)
+      (λ y p. ⊎-elim (λ h. laid .below (from + x * depth + y) (omega arith)) (λ h. laid .above (from + x * depth + y) (omega arith)) c))
       (laid-pixel bytes depth s refl refl (omega (arith, laid .same)))
 
   module _ (draw : ℕ → List ℕ → List ℕ) (i : ℕ) where
@@ -224,15 +210,6 @@ full-values (Mono p) e r i j source = go (monoBit p r i j =? 1) (p .transparent)
     go false false e = (_, refl)
     go false true e = absurd (not-both false e refl)
 
--- one move copies n pixels of row j, from column i: each gets its pixel of a source in frame memory, and none meets a byte that
--- another has overwritten
-pub record Straight (b : Blt) (i j n : ℕ) : Type 0 where
-  pub source : Rectangle
-  pub reads : b .source ≡ Frame source
-  pub copies : b .code ≡ 0xCC
-  pub full : isFull (b .pattern) ≡ true
-  pub clear : Clear (b .destination .columns .negative) (lowByte source i j n) (lowByte (b .destination) i j n) (n * b .destination .depth)
-
 place-at : (negative : Bool) (i n m : ℕ) → m < n → (placeOf negative n m < n) × (columnAt negative i n (placeOf negative n m) ≡ i + m)
 place-at true i n m l = (omega arith, omega arith)
 place-at false i n m l = (l, refl)
@@ -260,27 +237,26 @@ module _ {size : ℕ} {b : Blt} {i j n : ℕ} (r : Row size b i j n) (z : 0 < n)
   pub copy-bytes : (from + n * b .destination .depth ≤ size) × (to + n * b .destination .depth ≤ size)
   copy-bytes = (rw (same .depth-same) at (bytes-in (source-span r z e) f), bytes-in (destination-span r z) t)
 
-  -- what a pixel draws
-  copy-drawn : b .code ≡ 0xCC → isFull (b .pattern) ≡ true → (m : ℕ) → m < n → (next : List ℕ)
-      → drawAt b (i + m) j next ≡ copied (b .destination .depth) from to (placeOf (b .destination .columns .negative) n m) next
-  unfolding drawAt operandsAt withSource sourceValue drawOperands
-  copy-drawn code full m l next =
-      rw (
-        e,
-        drawn-byte (source-span r z e) f m l,
-        drawn-byte (destination-span r z) t m l,
-        same .columns-same,
-        same .depth-same,
-        full-values (b .pattern) full (b .destination) (i + m) j _ .1,
-      )
-      (ap (storePixel (b .destination .depth) next _) (raster-copy (8 * b .destination .depth) (b .code) _ _ _ code)
-      ∙ store-low (b .destination .depth) next _ _)
+  module _ (code : b .code ≡ 0xCC) (full : isFull (b .pattern) ≡ true) where
+    -- what a pixel draws: its source as it is
+    pub copy-pixel : (x : ℕ) (next : List ℕ)
+        → drawAt b x j next ≡ storePixel (b .destination .depth) next (pixelByte (b .destination) x j) (readPixel (b .destination .depth) next (pixelByte s x j))
+    unfolding drawAt operandsAt withSource sourceValue drawOperands
+    copy-pixel x next =
+        rw (e, same .depth-same, full-values (b .pattern) full (b .destination) x j _ .1)
+        (ap (storePixel (b .destination .depth) next _) (raster-copy (8 * b .destination .depth) (b .code) _ _ _ code)
+        ∙ store-low (b .destination .depth) next _ _)
 
-  pub copy-row : (frame : List ℕ) → length frame ≡ size → Straight b i j n → Bytes frame
-      → moved from to (n * b .destination .depth) frame ≡ rowPixels b i j n frame
-  copy-row frame g c bytes =
-      let w = copy-bytes in
-      let y : c .source ≡ s = cc in
-      laid-one (laid-moved from to (n * b .destination .depth) frame (omega arith) (omega arith))
-      (copy-all (b .destination .depth) n from to frame bytes (omega arith) (λ m. drawAt b m j) i (b .destination .columns .negative)
-      (rw (f, t, ← y) (c .clear)) (copy-drawn (c .copies) (c .full)))
+    copy-drawn : (m : ℕ) → m < n → (next : List ℕ)
+        → drawAt b (i + m) j next ≡ copied (b .destination .depth) from to (placeOf (b .destination .columns .negative) n m) next
+    copy-drawn m l next =
+        copy-pixel (i + m) next
+        ∙ rw (drawn-byte (source-span r z e) f m l, drawn-byte (destination-span r z) t m l, same .columns-same, same .depth-same)
+
+    -- where no byte is met after it was overwritten, one move does them all
+    pub copy-row : (frame : List ℕ) → length frame ≡ size → Clear (b .destination .columns .negative) from to (n * b .destination .depth)
+        → Bytes frame → moved from to (n * b .destination .depth) frame ≡ rowPixels b i j n frame
+    copy-row frame g clear bytes =
+        let w = copy-bytes in
+        laid-one (laid-moved from to (n * b .destination .depth) frame (omega arith) (omega arith))
+        (copy-all (b .destination .depth) n from to frame bytes (omega arith) (λ m. drawAt b m j) i (b .destination .columns .negative) clear copy-drawn)

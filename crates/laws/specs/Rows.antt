@@ -211,12 +211,15 @@ module _ {size : ℕ} {b : Blt} {i j n : ℕ} (r : Row size b i j n) where
       pub source-along : Along (b .destination .columns) from m
       source-along = along (r .small) (same .columns-same) m (rw f at (source-within first)) (rw f at (source-within here)) g
 
+      pub source-at : {at : ℕ} → at ≡ from + ahead (b .destination .columns) m - behind (b .destination .columns) m → at ≡ pixelByte s (i + m) j
+      source-at = along-at (r .small) (same .columns-same) m (rw f at (source-within first)) (rw f at (source-within here)) g
+
       pub source-read : {at : ℕ} → at ≡ from + ahead (b .destination .columns) m - behind (b .destination .columns) m
           → (at + b .destination .depth ≤ now) × ((frame : List ℕ) → Value (readPixel (b .destination .depth) frame at) ≡ sourceValue (b .source) (i + m) j frame)
       unfolding sourceValue
       source-read a =
           let w = rw f at (source-within here) in
-          let p = along-at (r .small) (same .columns-same) m (rw f at (source-within first)) w g a in
+          let p = source-at a in
           (omega (arith, w .bytes-in, same .depth-same), λ frame. rw (f, p, same .depth-same))
 
     -- or its bit, in a row of bits whose bytes begin at `from`

@@ -4,10 +4,10 @@ ghost use mathlib.Core.Bool.{true};
 ghost use Prim.Native.Nat.{_+_, _*_, _^_, _≤_, _<_};
 ghost use lib.ListN.{length};
 ghost use Rattle.laws.specs.Rows.{Row, rowPixels};
-ghost use Rattle.laws.specs.Moves.{moved, Laid, Beside, Clear, isFull, Straight};
+ghost use Rattle.model.specs.declared.Source.the-variants.{Frame};
+ghost use Rattle.laws.specs.Moves.{moved, Laid, Beside, Clear, isFull};
 use model::Blt;
-use model::Pattern;
-use model::Source;
+use model::Rectangle;
 
 // ---- bytes
 
@@ -60,16 +60,6 @@ fn is_clear(negative: bool, from: usize, to: usize, n: usize) -> bool
 
 // ---- rows
 
-// Whether a pattern gives every pixel a value.
-fn is_full(p: Pattern) -> bool
-    ensures { λ r. ⌜ r ≡ isFull p ⌝ }
-{
-    match p {
-        Pattern::Solid(_) => true,
-        Pattern::Mono(m) => !m.transparent,
-    }
-}
-
 // The bytes of n pixels.
 fn bytes_of(depth: usize, n: usize) -> usize
     requires { ⌜ n * depth < 2 ^ 32 ⌝ }
@@ -78,43 +68,39 @@ fn bytes_of(depth: usize, n: usize) -> usize
     n * depth
 }
 
-// Whether one move copies n pixels of row j, from column i.
-pub fn is_straight(f: &[u8], b: Blt, i: usize, j: usize, n: usize) -> bool
-    requires { ⌜ (Row (length (now f)) b i j n) × (0 < n) ⌝ }
-    ensures { λ r. ⌜ (r ≡ true → Straight b i j n) ⌝ }
+// Copies n pixels of row j, from column i, one after the other: each gets its source as it then stands.
+fn smear(f: &mut [u8], b: Blt, s: Rectangle, i: usize, j: usize, n: usize)
+    requires { ⌜ (Row (length (now f)) b i j n) × (0 < n) × (b .source ≡ Frame s) × (b .code ≡ 204) × (isFull (b .pattern) ≡ true) ⌝ }
+    ensures { λ _. ⌜ now (f .exit) ≡ rowPixels b i j n (now (f .entry)) ⌝ }
 {
-    let code = b.code;
-    if code != 0xCC {
-        return false;
+    let first = b.destination;
+    let to = rectangle::pixel_byte(first, i, j);
+    let from = rectangle::pixel_byte(s, i, j);
+    let mut m = 0;
+    while m < n {
+        let d = b.destination;
+        let columns = d.columns;
+        let value = pixel::get(d.depth, f, rectangle::along(columns, from, m));
+        let at = rectangle::along(columns, to, m);
+        pixel::put(d.depth, f, at, value);
+        m += 1;
     }
-    let pattern = b.pattern;
-    let full = is_full(pattern);
-    if !full {
-        return false;
-    }
-    let source = b.source;
-    let Source::Frame(s) = source else {
-        return false;
-    };
+}
+
+// Copies them by one move where it can, under raster operation CCh and a pattern that gives every pixel a value.
+pub fn copy(f: &mut [u8], b: Blt, s: Rectangle, i: usize, j: usize, n: usize)
+    requires { ⌜ (Row (length (now f)) b i j n) × (0 < n) × (b .source ≡ Frame s) × (b .code ≡ 204) × (isFull (b .pattern) ≡ true) ⌝ }
+    ensures { λ _. ⌜ now (f .exit) ≡ rowPixels b i j n (now (f .entry)) ⌝ }
+{
     let d = b.destination;
     let columns = d.columns;
     let from = rectangle::low_byte(s, i, j, n);
     let to = rectangle::low_byte(d, i, j, n);
     let size = bytes_of(d.depth, n);
-    is_clear(columns.negative, from, to, size)
-}
-
-// Draws such a row: its source can only be in frame memory.
-pub fn copy(f: &mut [u8], b: Blt, i: usize, j: usize, n: usize)
-    requires { ⌜ (Row (length (now f)) b i j n) × (0 < n) × (Straight b i j n) ⌝ }
-    ensures { λ _. ⌜ now (f .exit) ≡ rowPixels b i j n (now (f .entry)) ⌝ }
-{
-    let source = b.source;
-    if let Source::Frame(s) = source {
-        let d = b.destination;
-        let from = rectangle::low_byte(s, i, j, n);
-        let to = rectangle::low_byte(d, i, j, n);
-        let size = bytes_of(d.depth, n);
+    let clear = is_clear(columns.negative, from, to, size);
+    if clear {
         move_bytes(f, from, to, size);
+        return;
     }
+    smear(f, b, s, i, j, n);
 }
