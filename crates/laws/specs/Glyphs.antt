@@ -51,6 +51,7 @@ pub record Inked (b : Blt) (s : MonoSource) (flip1 keep1 flip0 keep0 : ℕ) : Ty
   pub clear-flip : flip0 ≡ flipBit (b .code) color s 0
   pub clear-keep : keep0 ≡ keepBit (b .code) color s 0
 
+-- what it draws is that blend of what stands there
 ink-drawn : (b : Blt) → Depth (b .destination .depth) → (color : ℕ) (s : MonoSource) (v : ℕ) {flip keep : ℕ}
     → flip ≡ flipBit (b .code) color s v → keep ≡ keepBit (b .code) color s v → (at : ℕ) (frame : List ℕ) → Bytes frame
     → changed (b .destination .depth) (blended flip keep) at frame
@@ -74,8 +75,8 @@ picked-bit f bits x p q = ⊎-elim (λ e. rw e q) (λ e. rw e p) (bit-cases (bit
 
 -- ---- pixels
 
--- of the pixels from byte `at` up eight are there, their bits, from number x of the row on, are those of one byte, and that
--- byte, at q, is none of theirs
+-- eight of the pixels that are left, from byte `at` up, may be drawn at once: their bits, from number x of the row on, are those
+-- of one byte, and that byte, at q, is none of theirs
 pub record Together (negative : Bool) (x left q at depth : ℕ) : Type 0 where
   pub up : negative ≡ false
   pub whole : x % 8 ≡ 0
@@ -101,6 +102,7 @@ module _ {size : ℕ} {b : Blt} {i j n : ℕ} (r : Row size b i j n) {s : MonoSo
 
   module _ {m at q : ℕ} (l : m < n) (a : at ≡ pixelByte (b .destination) (i + m) j) (reads : q ≡ from + (s .skip + (i + m)) / 8)
       (t : Together (b .destination .columns .negative) (s .skip + (i + m)) (n - m) q at (b .destination .depth)) where
+    -- the eight pixels, from the lowest up
     eight : Span size (b .destination) (i + m) j 8
     eight = record {
       fit = r .fit .destination-fit;
@@ -112,11 +114,11 @@ module _ {size : ℕ} {b : Blt} {i j n : ℕ} (r : Row size b i j n) {s : MonoSo
     low : at ≡ lowByte (b .destination) (i + m) j 8
     low = a ∙ ap (λ (v : Bool). pixelByte (b .destination) (lowColumn v (i + m) 8) j) (sym (t .up))
 
-    -- the bytes of eight pixels
+    -- their bytes
     pub eight-in : at + 8 * b .destination .depth ≤ size
     eight-in = bytes-in eight low
 
-    -- a pixel of the eight, at its own byte, and by its bit of the one byte
+    -- one of them, by its bit of the byte
     eight-at : {k : ℕ} → k < 8 → (frame : List ℕ) → Bytes frame
         → drawAt b (i + m + k) j frame ≡ changedAt (b .destination .depth) (rule (readPixel 1 frame q)) at k frame
     eight-at {k} h frame p =
@@ -127,7 +129,7 @@ module _ {size : ℕ} {b : Blt} {i j n : ℕ} (r : Row size b i j n) {s : MonoSo
         rw y (sym (ap (λ (v : Bool). pixelByte (b .destination) (columnAt v (i + m) 8 k) j) (sym (t .up)) ∙ place-byte eight low k h)) in
         sym (rw (y, x, u) at (bit-drawn {m = m + k} (omega (arith, t .enough)) here frame p))
 
-    -- it leaves that byte as it was
+    -- it leaves the byte as it was
     eight-keeps : {k : ℕ} → k < 8 → (frame : List ℕ) (v : ℕ)
         → readPixel 1 (storePixel (b .destination .depth) frame (at + k * b .destination .depth) v) q ≡ readPixel 1 frame q
     eight-keeps {k} h frame v =
@@ -138,7 +140,7 @@ module _ {size : ℕ} {b : Blt} {i j n : ℕ} (r : Row size b i j n) {s : MonoSo
         (λ above. store-above (b .destination .depth) frame _ v (q + e) (omega (arith, suc-mul k (b .destination .depth), mul-le-mul-right (b .destination .depth) h)))
         (t .apart))
 
-    -- eight pixels from pixel m on, by the byte as it was before the first
+    -- all of them, by the byte as it was before the first
     pub eight-drawn : (frame : List ℕ) → Bytes frame
         → changedRow (b .destination .depth) (rule (readPixel 1 frame q)) 8 at frame ≡ rowPixels b (i + m) j 8 frame
     eight-drawn frame p =

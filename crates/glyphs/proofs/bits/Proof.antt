@@ -1,7 +1,6 @@
 use Prim.Native.Nat.{_-_}
 use mathlib.Core.Path.{refl}
 use native.Mathlib.Omega.{arith}
-use borrow.Author.Needs.{needs}
 use Rattle.model.specs.BltPixel.{drawAt}
 use Rattle.laws.specs.Order.{Remain, remain-all, remain-add, remain-none}
 use Rattle.laws.specs.Rows.{length-at, row-reached, bits-within}
