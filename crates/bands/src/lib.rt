@@ -1,17 +1,18 @@
 // The rows of a BLT, one after the other: n pixels from pixel k, by the row for its kind. Each kind has a loop of its own, so that
 // what it makes ready is made ready once, and for no other kind.
 ghost use mathlib.Core.Path.{_≡_};
-ghost use Prim.Native.Nat.{_+_, _/_, _%_, _≤_, _<_};
+ghost use mathlib.Core.Bool.{true};
+ghost use Prim.Native.Nat.{_/_, _%_, _≤_, _<_};
 ghost use lib.ListN.{length};
-ghost use Rattle.model.specs.Limits.{frameMost};
-ghost use Rattle.model.specs.Rectangle.{pixelsOf};
 ghost use Rattle.model.specs.declared.Pattern.the-variants.{Solid, Mono};
 ghost use Rattle.model.specs.declared.Source.the-variants.{Frame, Bits};
 ghost use Rattle.laws.specs.Order.{bltPixels};
-ghost use Rattle.laws.specs.Ranges.{FitBlt};
+ghost use Rattle.laws.specs.Rows.{Band};
 ghost use Rattle.laws.specs.Plain.{Plain, Served};
+ghost use Rattle.laws.specs.Moves.{isFull};
 use model::Blt;
 use model::MonoPattern;
+use model::MonoSource;
 use model::Rectangle;
 
 // ---- where a span begins, and how much of it is of one row
@@ -51,7 +52,7 @@ fn least(x: usize, y: usize) -> usize
 
 // A solid pattern under raster operation F0h, where one value serves as the source.
 pub fn fill(f: &mut [u8], b: Blt, color: u32, k: usize, n: usize)
-    requires { ⌜ (FitBlt (length (now f)) b) × (k + n ≤ pixelsOf (b .destination)) × (length (now f) ≤ frameMost) × (b .pattern ≡ Solid color) × (b .code ≡ 240) × (Served (b .code) (b .source)) ⌝ }
+    requires { ⌜ (Band (length (now f)) b k n) × (b .pattern ≡ Solid color) × (b .code ≡ 240) × (Served (b .code) (b .source)) ⌝ }
     ensures { λ _. ⌜ now (f .exit) ≡ bltPixels b k n (now (f .entry)) ⌝ }
 {
     let d = b.destination;
@@ -71,7 +72,7 @@ pub fn fill(f: &mut [u8], b: Blt, color: u32, k: usize, n: usize)
 
 // A solid pattern under any raster operation, where one value serves as the source.
 pub fn blend(f: &mut [u8], b: Blt, color: u32, value: u32, k: usize, n: usize)
-    requires { ⌜ (FitBlt (length (now f)) b) × (k + n ≤ pixelsOf (b .destination)) × (length (now f) ≤ frameMost) × (b .pattern ≡ Solid color) × (Plain (b .code) (b .source) value) ⌝ }
+    requires { ⌜ (Band (length (now f)) b k n) × (b .pattern ≡ Solid color) × (Plain (b .code) (b .source) value) ⌝ }
     ensures { λ _. ⌜ now (f .exit) ≡ bltPixels b k n (now (f .entry)) ⌝ }
 {
     let d = b.destination;
@@ -91,7 +92,7 @@ pub fn blend(f: &mut [u8], b: Blt, color: u32, value: u32, k: usize, n: usize)
 
 // A mono pattern, where one value serves as the source.
 pub fn mono(f: &mut [u8], b: Blt, p: MonoPattern, value: u32, k: usize, n: usize)
-    requires { ⌜ (FitBlt (length (now f)) b) × (k + n ≤ pixelsOf (b .destination)) × (length (now f) ≤ frameMost) × (b .pattern ≡ Mono p) × (Plain (b .code) (b .source) value) ⌝ }
+    requires { ⌜ (Band (length (now f)) b k n) × (b .pattern ≡ Mono p) × (Plain (b .code) (b .source) value) ⌝ }
     ensures { λ _. ⌜ now (f .exit) ≡ bltPixels b k n (now (f .entry)) ⌝ }
 {
     let d = b.destination;
@@ -109,9 +110,29 @@ pub fn mono(f: &mut [u8], b: Blt, p: MonoPattern, value: u32, k: usize, n: usize
     }
 }
 
+// A source in frame memory under raster operation CCh, with a pattern that gives every pixel a value.
+pub fn copy(f: &mut [u8], b: Blt, s: Rectangle, k: usize, n: usize)
+    requires { ⌜ (Band (length (now f)) b k n) × (b .source ≡ Frame s) × (b .code ≡ 204) × (isFull (b .pattern) ≡ true) ⌝ }
+    ensures { λ _. ⌜ now (f .exit) ≡ bltPixels b k n (now (f .entry)) ⌝ }
+{
+    let d = b.destination;
+    let columns = d.columns;
+    let width = columns.count;
+    let mut i = column_of(k, width);
+    let mut j = row_of(k, width);
+    let mut m = 0;
+    while m < n {
+        let c = least(n - m, width - i);
+        moves::copy(f, b, s, i, j, c);
+        i = 0;
+        j += 1;
+        m += c;
+    }
+}
+
 // A solid pattern with a source in frame memory.
 pub fn combine(f: &mut [u8], b: Blt, color: u32, s: Rectangle, k: usize, n: usize)
-    requires { ⌜ (FitBlt (length (now f)) b) × (k + n ≤ pixelsOf (b .destination)) × (length (now f) ≤ frameMost) × (b .pattern ≡ Solid color) × (b .source ≡ Frame s) ⌝ }
+    requires { ⌜ (Band (length (now f)) b k n) × (b .pattern ≡ Solid color) × (b .source ≡ Frame s) ⌝ }
     ensures { λ _. ⌜ now (f .exit) ≡ bltPixels b k n (now (f .entry)) ⌝ }
 {
     let d = b.destination;
@@ -129,9 +150,29 @@ pub fn combine(f: &mut [u8], b: Blt, color: u32, s: Rectangle, k: usize, n: usiz
     }
 }
 
+// A solid pattern with a mono source.
+pub fn bits(f: &mut [u8], b: Blt, color: u32, s: MonoSource, k: usize, n: usize)
+    requires { ⌜ (Band (length (now f)) b k n) × (b .pattern ≡ Solid color) × (b .source ≡ Bits s) ⌝ }
+    ensures { λ _. ⌜ now (f .exit) ≡ bltPixels b k n (now (f .entry)) ⌝ }
+{
+    let d = b.destination;
+    let columns = d.columns;
+    let width = columns.count;
+    let mut i = column_of(k, width);
+    let mut j = row_of(k, width);
+    let mut m = 0;
+    while m < n {
+        let c = least(n - m, width - i);
+        glyphs::bits(f, b, color, s, i, j, c);
+        i = 0;
+        j += 1;
+        m += c;
+    }
+}
+
 // Any source and pattern.
 pub fn general(f: &mut [u8], b: Blt, k: usize, n: usize)
-    requires { ⌜ (FitBlt (length (now f)) b) × (k + n ≤ pixelsOf (b .destination)) × (length (now f) ≤ frameMost) ⌝ }
+    requires { ⌜ Band (length (now f)) b k n ⌝ }
     ensures { λ _. ⌜ now (f .exit) ≡ bltPixels b k n (now (f .entry)) ⌝ }
 {
     let d = b.destination;

@@ -1,6 +1,5 @@
 // A BLT: what its registers describe, and its pixels drawn row by row.
 ghost use mathlib.Core.Path.{_≡_};
-ghost use mathlib.Core.Bool.{false};
 ghost use Prim.Native.Nat.{_+_, _-_, _≤_, _<_};
 ghost use lib.ListN.{length};
 ghost use Rattle.model.specs.Limits.{frameMost};
@@ -9,10 +8,12 @@ ghost use Rattle.model.specs.Registers.{registerCount, word};
 ghost use Rattle.model.specs.Rectangle.{pixelsOf};
 ghost use Rattle.model.specs.BltPixel.{rectangleOf, monoMode, rowStride, bytesOf, monoSourceOf, patternOf, bltOf};
 ghost use Rattle.model.specs.declared.Pattern.the-variants.{Solid};
+ghost use Rattle.model.specs.declared.Source.the-variants.{Frame, Bits};
 ghost use Rattle.laws.specs.Order.{bltPixels};
 ghost use Rattle.laws.specs.Ranges.{FitBlt};
-ghost use Rattle.laws.specs.Rows.{Row, rowPixels};
+ghost use Rattle.laws.specs.Rows.{Band};
 ghost use Rattle.laws.specs.Plain.{sourceless, isPlain, plainValue, Plain};
+ghost use Rattle.laws.specs.Moves.{isFull};
 use model::Axis;
 use model::BLT_MODE;
 use model::Blt;
@@ -236,101 +237,97 @@ fn plain_value(s: Source) -> u32
     }
 }
 
-// Draws n pixels of one row with a solid pattern for which one value serves as the source.
-fn solid_row(f: &mut [u8], b: Blt, color: u32, value: u32, i: usize, j: usize, n: usize)
-    requires { ⌜ (Row (length (now f)) b i j n) × (0 < n) × (b .pattern ≡ Solid color) × (Plain (b .code) (b .source) value) ⌝ }
-    ensures { λ _. ⌜ now (f .exit) ≡ rowPixels b i j n (now (f .entry)) ⌝ }
+// Whether a pattern gives every pixel a value.
+fn is_full(p: Pattern) -> bool
+    ensures { λ r. ⌜ r ≡ isFull p ⌝ }
+{
+    match p {
+        Pattern::Solid(_) => true,
+        Pattern::Mono(m) => !m.transparent,
+    }
+}
+
+// Draws n pixels with a solid pattern for which one value serves as the source.
+fn draw_solid(f: &mut [u8], b: Blt, color: u32, value: u32, k: usize, n: usize)
+    requires { ⌜ (Band (length (now f)) b k n) × (b .pattern ≡ Solid color) × (Plain (b .code) (b .source) value) ⌝ }
+    ensures { λ _. ⌜ now (f .exit) ≡ bltPixels b k n (now (f .entry)) ⌝ }
 {
     let code = b.code;
     if code == 0xF0 {
-        rows::fill(f, b, color, i, j, n);
+        bands::fill(f, b, color, k, n);
         return;
     }
-    rows::blend(f, b, color, value, i, j, n);
+    bands::blend(f, b, color, value, k, n);
 }
 
-// Draws n pixels of one row for which one value serves as the source.
-fn plain_row(f: &mut [u8], b: Blt, value: u32, i: usize, j: usize, n: usize)
-    requires { ⌜ (Row (length (now f)) b i j n) × (0 < n) × (Plain (b .code) (b .source) value) ⌝ }
-    ensures { λ _. ⌜ now (f .exit) ≡ rowPixels b i j n (now (f .entry)) ⌝ }
+// Draws n pixels for which one value serves as the source.
+fn draw_plain(f: &mut [u8], b: Blt, value: u32, k: usize, n: usize)
+    requires { ⌜ (Band (length (now f)) b k n) × (Plain (b .code) (b .source) value) ⌝ }
+    ensures { λ _. ⌜ now (f .exit) ≡ bltPixels b k n (now (f .entry)) ⌝ }
 {
     let p = b.pattern;
     match p {
-        Pattern::Solid(color) => solid_row(f, b, color, value, i, j, n),
-        Pattern::Mono(m) => rows::mono(f, b, m, value, i, j, n),
+        Pattern::Solid(color) => draw_solid(f, b, color, value, k, n),
+        Pattern::Mono(m) => bands::mono(f, b, m, value, k, n),
     }
 }
 
-// Draws n pixels of one row with a solid pattern that combines each pixel with its own source value.
-fn combined_row(f: &mut [u8], b: Blt, color: u32, i: usize, j: usize, n: usize)
-    requires { ⌜ (Row (length (now f)) b i j n) × (0 < n) × (b .pattern ≡ Solid color) × (isPlain (b .code) (b .source) ≡ false) ⌝ }
-    ensures { λ _. ⌜ now (f .exit) ≡ rowPixels b i j n (now (f .entry)) ⌝ }
+// Draws n pixels that combine their source in frame memory with a pattern and with what stands there.
+fn draw_combined(f: &mut [u8], b: Blt, s: Rectangle, k: usize, n: usize)
+    requires { ⌜ (Band (length (now f)) b k n) × (b .source ≡ Frame s) ⌝ }
+    ensures { λ _. ⌜ now (f .exit) ≡ bltPixels b k n (now (f .entry)) ⌝ }
 {
-    let s = b.source;
-    match s {
-        // one value would serve
-        Source::Unselected(_) => {}
-        Source::Frame(r) => rows::solid_source(f, b, color, r, i, j, n),
-        Source::Bits(m) => glyphs::bits(f, b, color, m, i, j, n),
-    }
-}
-
-// Draws n pixels of one row that reads its source: by one move of bytes, or pixel by pixel.
-fn source_row(f: &mut [u8], b: Blt, i: usize, j: usize, n: usize)
-    requires { ⌜ (Row (length (now f)) b i j n) × (0 < n) × (isPlain (b .code) (b .source) ≡ false) ⌝ }
-    ensures { λ _. ⌜ now (f .exit) ≡ rowPixels b i j n (now (f .entry)) ⌝ }
-{
-    let straight = moves::is_straight(f, b, i, j, n);
-    if straight {
-        moves::copy(f, b, i, j, n);
-        return;
-    }
     let p = b.pattern;
     match p {
-        Pattern::Solid(color) => combined_row(f, b, color, i, j, n),
-        Pattern::Mono(_) => rows::general(f, b, i, j, n),
+        Pattern::Solid(color) => bands::combine(f, b, color, s, k, n),
+        Pattern::Mono(_) => bands::general(f, b, k, n),
     }
 }
 
-// Draws n pixels of one row. Each kind of row has one place that calls it: so the compiler lays them all out in the loop below.
-fn draw_row(f: &mut [u8], b: Blt, i: usize, j: usize, n: usize)
-    requires { ⌜ (Row (length (now f)) b i j n) × (0 < n) ⌝ }
-    ensures { λ _. ⌜ now (f .exit) ≡ rowPixels b i j n (now (f .entry)) ⌝ }
+// Draws n pixels that read their source in frame memory: a copy, or another combination.
+fn draw_frame(f: &mut [u8], b: Blt, s: Rectangle, k: usize, n: usize)
+    requires { ⌜ (Band (length (now f)) b k n) × (b .source ≡ Frame s) ⌝ }
+    ensures { λ _. ⌜ now (f .exit) ≡ bltPixels b k n (now (f .entry)) ⌝ }
 {
-    let s = b.source;
-    let plain = is_plain(b.code, s);
-    if plain {
-        plain_row(f, b, plain_value(s), i, j, n);
-        return;
+    let code = b.code;
+    if code == 0xCC {
+        let p = b.pattern;
+        let full = is_full(p);
+        if full {
+            bands::copy(f, b, s, k, n);
+            return;
+        }
     }
-    source_row(f, b, i, j, n);
+    draw_combined(f, b, s, k, n);
 }
 
-fn least(x: usize, y: usize) -> usize
-    ensures { λ r. ⌜ (r ≤ x) × (r ≤ y) × (r < x → r ≡ y) × (0 < x → 0 < y → 0 < r) ⌝ }
+// Draws n pixels that read their bits.
+fn draw_bits(f: &mut [u8], b: Blt, s: MonoSource, k: usize, n: usize)
+    requires { ⌜ (Band (length (now f)) b k n) × (b .source ≡ Bits s) ⌝ }
+    ensures { λ _. ⌜ now (f .exit) ≡ bltPixels b k n (now (f .entry)) ⌝ }
 {
-    if x < y {
-        return x;
+    let p = b.pattern;
+    match p {
+        Pattern::Solid(color) => bands::bits(f, b, color, s, k, n),
+        Pattern::Mono(_) => bands::general(f, b, k, n),
     }
-    y
 }
 
-// Draws n pixels of a BLT, from pixel k, row by row.
+// Draws n pixels of a BLT, from pixel k, by the rows of its kind.
 pub fn draw(f: &mut [u8], b: Blt, k: usize, n: usize)
     requires { ⌜ (FitBlt (length (now f)) b) × (k + n ≤ pixelsOf (b .destination)) × (length (now f) ≤ frameMost) ⌝ }
     ensures { λ _. ⌜ now (f .exit) ≡ bltPixels b k n (now (f .entry)) ⌝ }
 {
-    let d = b.destination;
-    let columns = d.columns;
-    let width = columns.count;
-    let mut i = k % width;
-    let mut j = k / width;
-    let mut m = 0;
-    while m < n {
-        let c = least(n - m, width - i);
-        draw_row(f, b, i, j, c);
-        i = 0;
-        j += 1;
-        m += c;
+    let s = b.source;
+    let plain = is_plain(b.code, s);
+    if plain {
+        draw_plain(f, b, plain_value(s), k, n);
+        return;
+    }
+    match s {
+        // one value would serve
+        Source::Unselected(_) => {}
+        Source::Frame(r) => draw_frame(f, b, r, k, n),
+        Source::Bits(m) => draw_bits(f, b, m, k, n),
     }
 }

@@ -234,6 +234,12 @@ module _ {size : ℕ} {b : Blt} {i j n : ℕ} (r : Row size b i j n) where
 
 -- ---- a BLT row by row
 
+-- n pixels of a BLT that judging accepts, from pixel k
+pub record Band (size : ℕ) (b : Blt) (k n : ℕ) : Type 0 where
+  pub fit : FitBlt size b
+  pub inside : k + n ≤ pixelsOf (b .destination)
+  pub small : size ≤ frameMost
+
 -- in the middle: m of n pixels from pixel k are drawn, and column i of row j is next
 pub record ByRows (b : Blt) (k n : ℕ) (first : List ℕ) (i j m : ℕ) (frame : List ℕ) : Type 0 where
   pub remain : Remain (drawBlt b) k n first m frame
@@ -255,14 +261,14 @@ rows-all {b = b} fit {k} frame =
 module _ {b : Blt} {k n : ℕ} {first : List ℕ} {i j m : ℕ} {frame : List ℕ} (r : ByRows b k n first i j m frame) where
   module _ (l : m < n) {c : ℕ} (p : c ≤ b .destination .columns .count - i) where
     -- c pixels from there on, of the same row
-    pub rows-part : FitBlt (length first) b → length first ≤ frameMost → k + n ≤ pixelsOf (b .destination) → Row (length frame) b i j c
-    rows-part fit small inside =
+    pub rows-part : Band (length first) b k n → Row (length frame) b i j c
+    rows-part a =
         rw (r .remain .same)
         (record {
-          fit = fit;
+          fit = a .fit;
           columns = omega (arith, r .narrow);
-          row = rw (r .row l) (row-lt _ (b .destination .rows .count) (k + m) (fit .destination-fit .ranged .wide) (omega arith));
-          small = small;
+          row = rw (r .row l) (row-lt _ (b .destination .rows .count) (k + m) (a .fit .destination-fit .ranged .wide) (omega (arith, a .inside)));
+          small = a .small;
         })
 
     -- and after them the next row, or none
