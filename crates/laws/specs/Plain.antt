@@ -1,7 +1,7 @@
 -- Rows of a BLT for which one value serves as the source of every pixel: each pixel's new value is a rule of its old one.
 use Prim.Native.Nat.{ℕ, _+_, _-_, _*_, _/_, _%_, _^_, _≤_, _<_}
 use mathlib.Core.Path.{_≡_, refl, sym, ap, _∙_}
-use mathlib.Core.Bool.{Bool, true, false, not, _&&_, _||_}
+use mathlib.Core.Bool.{Bool, true, false, not, _||_}
 use mathlib.Core.List.{List}
 use mathlib.Core.Logic.{_⊎_, inl, inr, ⊎-elim}
 use native.Mathlib.Omega.{arith}
@@ -9,7 +9,7 @@ use native.Mathlib.Nat.{mod-eq-of-lt, add-mul}
 use lib.ListN.{length}
 use Rattle.model.specs.Bits.{bit}
 use borrow.Author.Tests.{eqb-true}
-use Rattle.model.specs.Choice.{_=?_, if_then_else_, not-both, both, either}
+use Rattle.model.specs.Choice.{_=?_, if_then_else_, not-both, either}
 use Rattle.model.specs.Formats.{Depth}
 use Rattle.model.specs.Pixel.{readPixel, storePixel}
 use Rattle.model.specs.Raster.{raster, raster-pattern, raster-pattern-xor}
@@ -74,27 +74,30 @@ sourceless code = code =? 0xF0 || code =? 0x5A
 
 abbrev pub isPlain : ℕ → Source → Bool
 isPlain code (Unselected color) = true
-isPlain code (Frame r) = sourceless code && isOpaque (Frame r)
-isPlain code (Bits m) = sourceless code && isOpaque (Bits m)
+isPlain code (Frame r) = sourceless code
+isPlain code (Bits m) = if sourceless code then not (m .transparent) else false
 
 abbrev pub plainValue : Source → ℕ
 plainValue (Unselected color) = color
 plainValue (Frame r) = 0
 plainValue (Bits m) = 0
 
-opaque-plain : (code : ℕ) (s : Source) → sourceless code && isOpaque s ≡ true → Plain code s 0
-opaque-plain code s e =
-    let p = both (sourceless code) (isOpaque s) e in
-    let c = ⊎-elim (λ f. inl (eqb-true code 0xF0 f)) (λ f. inr (eqb-true code 0x5A f)) (either (code =? 0xF0) (code =? 0x5A) (p .0)) in
+opaque-plain : (code : ℕ) (s : Source) → sourceless code ≡ true → isOpaque s ≡ true → Plain code s 0
+opaque-plain code s e p =
+    let c = ⊎-elim (λ f. inl (eqb-true code 0xF0 f)) (λ f. inr (eqb-true code 0x5A f)) (either (code =? 0xF0) (code =? 0x5A) e) in
     record {
-      serves = λ i j frame. let o = opaque-value s i j frame (p .1) in (o .0, o .1, λ m p d. unread code c m p (o .0) 0 d);
+      serves = λ i j frame. let o = opaque-value s i j frame p in (o .0, o .1, λ m p d. unread code c m p (o .0) 0 d);
     }
 
 pub plain : (code : ℕ) (s : Source) → isPlain code s ≡ true → Plain code s (plainValue s)
 unfolding sourceValue
 plain code (Unselected color) e = record { serves = λ i j frame. (color, refl, λ m p d. refl) }
-plain code (Frame r) e = opaque-plain code (Frame r) e
-plain code (Bits m) e = opaque-plain code (Bits m) e
+plain code (Frame r) e = opaque-plain code (Frame r) e refl
+plain code (Bits m) e = let p = go (sourceless code) (not (m .transparent)) e in opaque-plain code (Bits m) (p .0) (p .1)
+  where
+    go : (a b : Bool) → (if a then b else false) ≡ true → (a ≡ true) × (b ≡ true)
+    go true b e = (refl, e)
+    go false b e = absurd (not-both false e refl)
 
 -- where its values are needed, one is selected
 pub needed-selected : (code : ℕ) {s : Source} {color : ℕ} → isPlain code s ≡ false → s ≡ Unselected color → ⊥

@@ -1,78 +1,73 @@
+use mathlib.Core.Path.{sym, _∙_}
+use Rattle.laws.specs.Plain.{plain, needed-selected}
 use borrow.Author.Needs.{needs}
-use Prim.Native.Nat.{_+_, _-_}
-use mathlib.Core.Path.{_∙_}
-use native.Mathlib.Omega.{arith}
-use native.Mathlib.Nat.{mod-lt}
-use Rattle.model.specs.BltPixel.{drawBlt}
-use Rattle.laws.specs.Order.{Remain, remain-all, remain-add, remain-none}
-use Rattle.laws.specs.Ranges.{area-most}
-use Rattle.laws.specs.Rows.{length-drawn, row-pixels, row-part}
 use Rattle.blt.proofs.draw.Statement.{statement}
 use Rattle.blt.proofs.draw.Tie as tie
 
-abbrev Inv-loop : tie.InvT-loop
-Inv-loop f₀ b k n m₀ f m = Remain (drawBlt b) k n f₀ m f
+is-plain-requires : tie.Need-is-plain-requires
+is-plain-requires c κs = search needs
 
-abbrev μ-loop : tie.MeasureT-loop
-μ-loop f₀ b k n m₀ f m = n - m
+plain-value-requires : tie.Need-plain-value-requires
+plain-value-requires c κs = search needs
 
-loop-holds : tie.Need-loop-holds Inv-loop μ-loop
-loop-holds c = remain-all _
+draw-plain-requires : tie.Need-draw-plain-requires
+draw-plain-requires c κs = (
+  record { fit = c .before .before .before .before .before .pre .0; inside = c .before .before .before .before .before .pre .1; small = c .before .before .before .before .before .pre .2 },
+  rw (c .plain-value .ensures) (plain (c .before .before .before .before .before .args .b .code) (c .before .before .before .before .before .args .b .source) (sym (c .before .before .before .is-plain .ensures) ∙ c .before .before .if1 .taken)),
+)
 
-add-at : tie.Need-add-at Inv-loop μ-loop
-add-at c = omega (arith, c .before .before .before .before .before .pre .1, area-most (c .before .before .before .before .before .pre .0 .destination-fit .ranged))
+same-length : tie.Need-same-length
+same-length c = search needs
 
-rem-i : tie.Need-rem-i Inv-loop μ-loop
-rem-i c = omega (arith, c .before .before .before .before .before .pre .0 .destination-fit .ranged .wide)
+returns : tie.Need-returns
+returns c = search needs
 
-sub-least : tie.Need-sub-least Inv-loop μ-loop
-sub-least c = omega arith
+enum-told : tie.Need-enum-told
+enum-told c = search needs
 
-sub-least-2 : tie.Need-sub-least-2 Inv-loop μ-loop
-sub-least-2 c = omega (arith, mod-lt (c .before .before .before .before .before .args .k + c .before .before .before .loop .m) (c .before .before .before .before .before .pre .0 .destination-fit .ranged .wide))
+enum-known-s : tie.Need-enum-known-s
+enum-known-s c = search needs
 
-least-requires : tie.Need-least-requires Inv-loop μ-loop
-least-requires c κs = search needs
+draw-frame-requires : tie.Need-draw-frame-requires
+draw-frame-requires c κs = search needs
 
-div-draw-row : tie.Need-div-draw-row Inv-loop μ-loop
-div-draw-row c = omega (arith, c .before .before .before .before .before .before .before .pre .0 .destination-fit .ranged .wide)
+enum-known-s-2 : tie.Need-enum-known-s-2
+enum-known-s-2 c = search needs
 
-draw-row-requires : tie.Need-draw-row-requires Inv-loop μ-loop
-draw-row-requires c κs = (row-part (c .before .before .before .before .before .before .before .pre .0) (c .before .before .before .before .before .before .before .pre .2) (omega (arith, c .before .before .before .before .before .before .before .pre .1)) (c .before .least .ensures .1) (c .before .before .before .before .before .loop .inv .same), c .before .least .ensures .2 (omega arith) (omega (arith, mod-lt (c .before .before .before .before .before .before .before .args .k + c .before .before .before .before .before .loop .m) (c .before .before .before .before .before .before .before .pre .0 .destination-fit .ranged .wide))))
+draw-bits-requires : tie.Need-draw-bits-requires
+draw-bits-requires c κs = search needs
 
-add-m : tie.Need-add-m Inv-loop μ-loop
-add-m c = omega (arith, c .before .before .before .before .least .ensures .0)
+returns-2 : tie.Need-returns-2
+returns-2 c = absurd (needed-selected (c .before .before .before .before .before .args .b .code) (sym (c .before .before .before .is-plain .ensures) ∙ c .before .before .if1 .left) (c .enum-told .given .1))
 
-loop-less : tie.Need-loop-less Inv-loop μ-loop
-loop-less c = omega (arith, c .before .before .before .before .least .ensures .0, c .before .before .before .before .least .ensures .2 (omega arith) (omega (arith, mod-lt (c .before .before .before .before .before .before .before .before .before .before .args .k + c .before .before .before .before .before .before .before .before .loop .m) (c .before .before .before .before .before .before .before .before .before .before .pre .0 .destination-fit .ranged .wide))))
+same-length-2 : tie.Need-same-length-2
+same-length-2 c = search needs
 
-loop-again : tie.Need-loop-again Inv-loop μ-loop
-loop-again c =
-    remain-add (length-drawn (c .before .before .before .before .before .before .before .before .before .before .args .b)) (c .before .before .before .before .before .before .before .before .loop .inv) _ (omega (arith, c .before .before .before .before .least .ensures .0))
-    (c .before .before .draw-row .ensures ∙ row-pixels (c .before .before .before .before .before .before .before .before .before .before .args .b) _ _ _ (omega (arith, c .before .before .before .before .least .ensures .1, mod-lt (c .before .before .before .before .before .before .before .before .before .before .args .k + c .before .before .before .before .before .before .before .before .loop .m) (c .before .before .before .before .before .before .before .before .before .before .pre .0 .destination-fit .ranged .wide))))
+returns-3 : tie.Need-returns-3
+returns-3 c = search needs
 
-same-length : tie.Need-same-length Inv-loop μ-loop
-same-length c = c .before .loop .inv .same
+same-length-3 : tie.Need-same-length-3
+same-length-3 c = search needs
 
-returns : tie.Need-returns Inv-loop μ-loop
-returns c = remain-none (c .before .loop .inv) (omega arith)
+returns-4 : tie.Need-returns-4
+returns-4 c = search needs
 
 pub draw-spec : {M : Type 1} → statement M
 draw-spec =
     tie.close
     (tie.spec
-    Inv-loop
-    μ-loop
-    loop-holds
-    add-at
-    rem-i
-    sub-least
-    sub-least-2
-    least-requires
-    div-draw-row
-    draw-row-requires
-    add-m
-    loop-less
-    loop-again
+    is-plain-requires
+    plain-value-requires
+    draw-plain-requires
     same-length
-    returns)
+    returns
+    enum-told
+    enum-known-s
+    draw-frame-requires
+    enum-known-s-2
+    draw-bits-requires
+    returns-2
+    same-length-2
+    returns-3
+    same-length-3
+    returns-4)
