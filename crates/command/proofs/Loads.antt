@@ -1,15 +1,19 @@
 -- Loading word by word: one word of the table, enabled or not, and the end of the table.
-use Prim.Native.Nat.{ℕ, _+_, _≤_, _<_}
+use Prim.Native.Nat.{ℕ, _+_, _-_, _%_, _≤_, _<_}
 use mathlib.Core.Path.{_≡_, sym, ap, _∙_}
-use mathlib.Core.Bool.{Bool}
+use mathlib.Core.Bool.{Bool, true, false}
 use mathlib.Core.List.{List, _∷_}
+use native.Mathlib.Omega.{arith}
+use native.Mathlib.Nat.{mod-eq-of-lt}
 use native.Mathlib.Numerals.{add-one}
-use lib.ListN.{length, getD, set, drop, drop-of-length-le}
-use lib.Seq.{drop-cons}
+use lib.ListN.{length, getD, set, take, drop, length-drop, drop-of-length-le}
+use lib.Seq.{drop-cons, getD-take, getD-drop, length-take-le}
 use Rattle.model.specs.Choice.{if_then_else_}
 use Rattle.model.specs.Bits.{set?}
 use Rattle.model.specs.Ring.{wordAt}
 use Rattle.model.specs.Command.{loadWords}
+use Rattle.laws.specs.Pixels.{set-same}
+use Rattle.command.specs.Pieces.{InPiece}
 
 module _ (ring : List ℕ) (read header : ℕ) (table : List ℕ) (i : ℕ) (registers : List ℕ) where
   pub load-word : (enabled : Bool) → i < length table → set? header i ≡ enabled
@@ -22,6 +26,32 @@ module _ (ring : List ℕ) (read header : ℕ) (table : List ℕ) (i : ℕ) (reg
       (ap (λ (l : List ℕ). loadWords ring read header l i registers)
       (drop-cons table i 0 h ∙ ap (λ (n : ℕ). getD table i 0 ∷ drop n table) (sym (add-one i))))
 
+  -- the same where a register that is not enabled gets what it has
+  pub load-chosen : (enabled : Bool) {r word next : ℕ} → i < length table → set? header i ≡ enabled → getD table i 0 ≡ r
+      → word ≡ wordAt ring read (i + 1) → next ≡ (if enabled then word else getD registers r 0)
+      → loadWords ring read header (drop i table) i registers
+      ≡ loadWords ring read header (drop (i + 1) table) (i + 1) (set registers r next)
+  load-chosen true h e t w n = load-word true h e ∙ rw (n, t, w)
+  load-chosen false {r} h e t w n = load-word false h e ∙ rw (n, set-same registers r)
+
   pub load-end : length table ≤ i → loadWords ring read header (drop i table) i registers ≡ registers
   unfolding loadWords
   load-end h = rw (drop-of-length-le table h)
+
+-- the words after a header, where they stand in one piece
+module _ (ring : List ℕ) (read : ℕ) (l : read + 17 ≤ length ring) where
+  abbrev words : List ℕ
+  words = take (read + 1 + 16 - (read + 1)) (drop (read + 1) ring)
+
+  pub piece-length : length words ≡ 16
+  piece-length =
+      let e : read + 1 + 16 - (read + 1) ≡ 16 = omega arith in
+      rw e (length-take-le 16 (drop (read + 1) ring) (omega (arith, length-drop (read + 1) ring)))
+
+  pub piece-words : InPiece ring read words
+  unfolding wordAt
+  piece-words i h =
+      let s = piece-length in
+      let e : read + 1 + i ≡ read + (i + 1) = omega arith in
+      getD-take (read + 1 + 16 - (read + 1)) (drop (read + 1) ring) i 0 (omega arith) ∙ getD-drop (read + 1) ring i 0
+      ∙ rw (e, mod-eq-of-lt {n = read + (i + 1)} {m = length ring} (omega arith))

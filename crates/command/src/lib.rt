@@ -1,13 +1,18 @@
 // Commands in the ring: what a header says, the refusals 21 and 22, the words that must wait, the registers after loading, and
 // the read pointer after it.
 ghost use mathlib.Core.Path.{_≡_};
-ghost use Prim.Native.Nat.{_+_, _≤_, _<_};
+ghost use mathlib.Core.Bool.{true};
+ghost use mathlib.Core.List.{List};
+ghost use Prim.Native.Nat.{ℕ, _+_, _≤_, _<_};
 ghost use lib.ListN.{length, getD};
 ghost use Rattle.model.specs.Limits.{ringLeast, ringMost};
 ghost use Rattle.model.specs.Registers.{registerCount};
 ghost use Rattle.model.specs.Refusals.{first};
 ghost use Rattle.model.specs.Command.{returns, kindOf, badHeader, wordRegisters, commandLength, primitiveOf, drawnBy, badReturn, headerRules, wholeWords, readAfter, loaded};
+ghost use Rattle.model.specs.Choice.{if_then_else_};
+ghost use Rattle.model.specs.declared.Kind.the-variants.{Blt as BltKind};
 ghost use Rattle.command.specs.Look.{look};
+ghost use Rattle.command.specs.Pieces.{InPiece};
 use model::Drawn;
 use model::Kind;
 use model::Primitive;
@@ -210,8 +215,39 @@ fn register_of(kind: Kind, i: usize) -> usize
     }
 }
 
-// The registers as they are after loading the command at the read pointer.
-pub fn load(registers: [u32; REGISTERS], ring: &[u32], read: usize, header: u32) -> [u32; REGISTERS]
+// The word where it is enabled, else what stood before.
+fn chosen(enabled: bool, word: u32, before: u32) -> u32
+    ensures { λ r. ⌜ r ≡ (if enabled then word else before) ⌝ }
+{
+    if enabled {
+        return word;
+    }
+    before
+}
+
+// The registers after loading a BLT whose words are lent in one piece. No word is passed over by a jump, so that the compiler
+// loads several at once.
+fn load_piece(registers: [u32; REGISTERS], words: &[u32], header: u32) -> [u32; REGISTERS]
+    requires { ⌜ (length (now words) ≡ 16) × (kindOf header ≡ BltKind) ⌝ }
+    ensures { λ r. ⌜ ((ring : List ℕ) (read : ℕ) → InPiece ring read (now (words .entry)) → r ≡ loaded ring read header registers) ⌝ }
+{
+    let mut out = registers;
+    let mut i = 0;
+    while i < 16 {
+        let on = fields::is_set(header, i as u32);
+        out[i] = chosen(on, words[i], out[i]);
+        i += 1;
+    }
+    out
+}
+
+// The registers after loading any command, whose words may run across the ring's end.
+fn load_words(
+    registers: [u32; REGISTERS],
+    ring: &[u32],
+    read: usize,
+    header: u32,
+) -> [u32; REGISTERS]
     requires { ⌜ (read < length (now ring)) × (ringLeast ≤ length (now ring)) ⌝ }
     ensures { λ r. ⌜ r ≡ loaded (now (ring .entry)) read header registers ⌝ }
 {
@@ -229,4 +265,29 @@ pub fn load(registers: [u32; REGISTERS], ring: &[u32], read: usize, header: u32)
         i += 1;
     }
     out
+}
+
+// Whether a command is a BLT whose words are in one piece.
+fn in_piece(kind: Kind, read: usize, size: usize) -> bool
+    requires { ⌜ read < size ⌝ }
+    ensures { λ r. ⌜ (r ≡ true → (kind ≡ BltKind) × (read + 17 ≤ size)) ⌝ }
+{
+    match kind {
+        Kind::Blt => 17 <= size - read,
+        Kind::Vector => false,
+    }
+}
+
+// The registers as they are after loading the command at the read pointer.
+pub fn load(registers: [u32; REGISTERS], ring: &[u32], read: usize, header: u32) -> [u32; REGISTERS]
+    requires { ⌜ (read < length (now ring)) × (ringLeast ≤ length (now ring)) ⌝ }
+    ensures { λ r. ⌜ r ≡ loaded (now (ring .entry)) read header registers ⌝ }
+{
+    let piece = in_piece(kind_of(header), read, ring.len());
+    if piece {
+        let a = read + 1;
+        let e = a + 16;
+        return load_piece(registers, &ring[a..e], header);
+    }
+    load_words(registers, ring, read, header)
 }

@@ -92,7 +92,7 @@ read-lt (suc n) frame at p =
     let e : 2 ^ (8 * suc n) ≡ 2 ^ (8 * n) * 256 = ap (λ (x : ℕ). 2 ^ x) (mul-suc 8 n) ∙ pow-add 2 (8 * n) 8 in
     omega (arith, e, p at, read-lt n frame (at + 1) p)
 
-set-same : (frame : List ℕ) (at : ℕ) → set frame at (getD frame at 0) ≡ frame
+pub set-same : (frame : List ℕ) (at : ℕ) → set frame at (getD frame at 0) ≡ frame
 set-same [] at = refl
 set-same (x ∷ frame) zero = refl
 set-same (x ∷ frame) (suc at) = ap (λ (t : List ℕ). x ∷ t) (set-same frame at)

@@ -1,0 +1,27 @@
+use Prim.Native.Nat.{_-_}
+use mathlib.Core.Path.{refl}
+use mathlib.Core.Bool.{false}
+use Rattle.model.specs.Choice.{not-both}
+use native.Mathlib.Omega.{arith}
+use borrow.Author.Tests.{leb-true}
+use borrow.Author.Needs.{needs}
+use Rattle.command.proofs.in_piece.Statement.{statement}
+use Rattle.command.proofs.in_piece.Tie as tie
+
+enum-told : tie.Need-enum-told
+enum-told c = search needs
+
+sub-result : tie.Need-sub-result
+sub-result c = search needs
+
+enum-told-2 : tie.Need-enum-told-2
+enum-told-2 c = search needs
+
+returns : tie.Need-returns
+returns c = λ e. (c .enum-told .given .1, let l = leb-true 17 (c .before .before .args .size - c .before .before .args .read) e in omega arith)
+
+returns-2 : tie.Need-returns-2
+returns-2 c = λ e. absurd (not-both false e refl)
+
+pub in-piece-spec : {M : Type 1} → statement M
+in-piece-spec = tie.close (tie.spec enum-told sub-result enum-told-2 returns returns-2)

@@ -1,0 +1,95 @@
+use Prim.Native.Nat.{ℕ, _-_, _≤_}
+use mathlib.Core.Path.{_≡_, refl, sym, _∙_}
+use mathlib.Core.List.{List}
+use native.Mathlib.Omega.{arith}
+use borrow.Author.Needs.{needs}
+use lib.ListN.{drop}
+use denote.Ref.{now}
+use Rattle.model.specs.Command.{wordRegisters, loadWords, loaded}
+use Rattle.model.specs.declared.Kind.the-variants.{Blt}
+use Rattle.command.specs.Pieces.{InPiece}
+use Rattle.command.proofs.Tables.{blt-register}
+use Rattle.command.proofs.Loads.{load-chosen, load-end}
+use Rattle.command.proofs.load_piece.Statement.{statement}
+use Rattle.command.proofs.load_piece.Tie as tie
+
+abbrev Inv-loop : tie.InvT-loop
+Inv-loop words header out₀ i₀ out i =
+    (i ≤ 16)
+    × ((ring : List ℕ) (read : ℕ) → InPiece ring read words
+    → loadWords ring read header (wordRegisters Blt) 0 out₀ ≡ loadWords ring read header (drop i (wordRegisters Blt)) i out)
+
+abbrev μ-loop : tie.MeasureT-loop
+μ-loop words header out₀ i₀ out i = 16 - i
+
+loop-holds : tie.Need-loop-holds Inv-loop μ-loop
+loop-holds c = (omega arith, λ ring read p. refl)
+
+cast-is-set : tie.Need-cast-is-set Inv-loop μ-loop
+cast-is-set c = omega arith
+
+is-set-requires : tie.Need-is-set-requires Inv-loop μ-loop
+is-set-requires c κs = omega arith
+
+mul-chosen : tie.Need-mul-chosen Inv-loop μ-loop
+mul-chosen c = omega arith
+
+shared-slice-read-chosen : tie.Need-shared-slice-read-chosen Inv-loop μ-loop
+shared-slice-read-chosen c = omega (arith, c .before .before .before .before .before .pre .0)
+
+mul-chosen-2 : tie.Need-mul-chosen-2 Inv-loop μ-loop
+mul-chosen-2 c = omega arith
+
+array-read-chosen : tie.Need-array-read-chosen Inv-loop μ-loop
+array-read-chosen c = omega arith
+
+chosen-requires : tie.Need-chosen-requires Inv-loop μ-loop
+chosen-requires c κs = search needs
+
+mul-out : tie.Need-mul-out Inv-loop μ-loop
+mul-out c = omega arith
+
+array-write-out : tie.Need-array-write-out Inv-loop μ-loop
+array-write-out c = omega arith
+
+add-i : tie.Need-add-i Inv-loop μ-loop
+add-i c = omega arith
+
+loop-less : tie.Need-loop-less Inv-loop μ-loop
+loop-less c = omega arith
+
+loop-again : tie.Need-loop-again Inv-loop μ-loop
+loop-again c = (
+  omega arith,
+  λ ring read p.
+      c .before .before .before .before .loop .inv .1 ring read p
+      ∙ load-chosen ring read (c .before .before .before .before .before .before .args .header) (wordRegisters Blt) (c .before .before .before .before .loop .i) (c .before .before .before .before .loop .out) (c .before .before .is-set .result) (omega arith) (sym (c .before .before .is-set .ensures))
+      (blt-register (c .before .before .before .before .loop .i) (omega arith)) (p (c .before .before .before .before .loop .i) (omega (arith, c .before .before .before .before .before .before .pre .0))) (c .chosen .ensures),
+)
+
+returns : tie.Need-returns Inv-loop μ-loop
+unfolding loaded
+returns c = λ ring read p.
+    rw (c .before .before .before .pre .1)
+    (sym (c .before .loop .inv .1 ring read p ∙ load-end ring read (c .before .before .before .args .header) (wordRegisters Blt) (c .before .loop .i) (c .before .loop .out) (omega arith)))
+
+pub load-piece-spec : {M : Type 1} → statement M
+load-piece-spec =
+    tie.close
+    (tie.spec
+    Inv-loop
+    μ-loop
+    loop-holds
+    cast-is-set
+    is-set-requires
+    mul-chosen
+    shared-slice-read-chosen
+    mul-chosen-2
+    array-read-chosen
+    chosen-requires
+    mul-out
+    array-write-out
+    add-i
+    loop-less
+    loop-again
+    returns)
