@@ -111,12 +111,17 @@ drawnWith b color value at frame =
     (raster (8 * b .destination .depth) (b .code) color value (readPixel (b .destination .depth) frame at))
 
 -- it is a blend of what stands there
+pub blend-stored : {depth : ℕ} → Depth depth → {flip keep : ℕ} (code color value : ℕ) → flip ≡ flipOf code color value
+    → keep ≡ keepOf code color value → (at : ℕ) (frame : List ℕ)
+    → storePixel depth frame at (raster (8 * depth) code color value (readPixel depth frame at)) ≡ changed depth (blended flip keep) at frame
+blend-stored {depth} deep {flip} {keep} code color value f k at frame =
+    sym (store-raster depth deep frame at code color value _)
+    ∙ ap (storePixel depth frame at) (sym (rw (f, k) (raster-blended code color value _)))
+
 pub blend-drawn : (b : Blt) → Depth (b .destination .depth) → {flip keep : ℕ} (color value : ℕ) → flip ≡ flipOf (b .code) color value
     → keep ≡ keepOf (b .code) color value → (at : ℕ) (frame : List ℕ)
     → drawnWith b color value at frame ≡ changed (b .destination .depth) (blended flip keep) at frame
-blend-drawn b deep {flip} {keep} color value f k at frame =
-    sym (store-raster (b .destination .depth) deep frame at (b .code) color value _)
-    ∙ ap (storePixel (b .destination .depth) frame at) (sym (rw (f, k) (raster-blended (b .code) color value _)))
+blend-drawn b deep = blend-stored deep (b .code)
 
 -- or, where nothing is written, the blend that keeps all
 abbrev pub flipUnless : Bool → (code color value : ℕ) → ℕ

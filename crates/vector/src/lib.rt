@@ -297,15 +297,14 @@ pub fn draw(f: &mut [u8], v: Vector, k: usize, n: usize)
 {
     let depth = v.depth;
     let offset = v.offset;
-    let source = v.foreground;
-    let op = pixel::prepare(v.code, v.color);
+    let blend = pixel::blend_of(v.code, v.color, v.foreground);
     let mut s = position_of(v, k);
     let mut i = 0;
     while i < n {
         let plus = s.plus;
         let minus = s.minus;
         let at = offset + plus - minus;
-        pixel::paint(f, op, depth, at, source);
+        pixel::apply(f, depth, at, blend);
         s = next(v, s);
         i += 1;
     }
