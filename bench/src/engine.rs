@@ -1,0 +1,197 @@
+//! A plain engine: it reads the ring words that the measured engine reads, judges them by the same rules and paints frame memory.
+//! Safe Rust, written for speed, without proofs. It draws each command whole: a run has no budget.
+
+use crate::blt::{self, Blt};
+use crate::vector::{self, Vector};
+
+pub type Registers = [u32; 17];
+
+// Numbered in the order of a BLT's words; the last is a vector's alone. SRC_OFFSET is VEC_ERR too, WID_HEIGHT VEC_LEN.
+pub const RASTER_MODE: usize = 0;
+pub const DST_OFFSET: usize = 1;
+pub const SRC_OFFSET: usize = 2;
+pub const STRIDE: usize = 3;
+pub const WID_HEIGHT: usize = 4;
+pub const SRC_COLOR_FG: usize = 5;
+pub const SRC_COLOR_BG: usize = 6;
+pub const PAT_COLOR_0: usize = 7;
+pub const PAT_COLOR_1: usize = 8;
+pub const PAT_DATA_0: usize = 9;
+pub const PAT_DATA_1: usize = 10;
+pub const CH3_MODE_STR: usize = 12;
+pub const BASE_OFFSET: usize = 14;
+pub const BLT_MODE: usize = 15;
+pub const VECTOR_MODE: usize = 16;
+
+/// The register of each word of a vector.
+const VECTOR_WORDS: [usize; 13] = [0, 1, 2, 3, 4, 5, 7, 8, 9, 10, 12, 14, 16];
+
+/// What a run tells: its units, the completion number, and the number that refused or stopped, or 0.
+#[derive(Clone, Copy, PartialEq, Eq, Debug, Default)]
+pub struct Told {
+    pub units: u32,
+    pub retired: u32,
+    pub number: u32,
+}
+
+/// The engine with its ring: what lies before `write` may be read.
+struct Engine<'a> {
+    ring: &'a [u32],
+    write: usize,
+    read: usize,
+    registers: Registers,
+}
+
+/// What the word at the read pointer leads to.
+enum Next {
+    Waits,
+    Refused(u32),
+    /// Loads this many units' worth, drawing included.
+    Done(u32),
+}
+
+/// Setup, publishing and a run over all that waits.
+pub fn draw(ring: &[u32], frame: &mut [u8], write: usize) -> Told {
+    let mut told = Told::default();
+    told.number = bad_lengths(ring.len(), frame.len(), write);
+    if told.number != 0 {
+        return told;
+    }
+    let mut engine = Engine { ring, write, read: 0, registers: [0; 17] };
+    loop {
+        match engine.next(frame) {
+            Next::Waits => return told,
+            Next::Refused(number) => {
+                told.units = told.units.wrapping_add(1);
+                told.number = number;
+                return told;
+            }
+            Next::Done(units) => {
+                told.units = told.units.wrapping_add(units);
+                told.retired = told.retired.wrapping_add(1);
+            }
+        }
+    }
+}
+
+/// 1, 2 or 5, or 0.
+fn bad_lengths(ring: usize, frame: usize, write: usize) -> u32 {
+    if !(64..=16384).contains(&ring) {
+        return 1;
+    }
+    if !(1..=16_777_216).contains(&frame) {
+        return 2;
+    }
+    if write >= ring {
+        return 5;
+    }
+    0
+}
+
+impl Engine<'_> {
+    /// Does one command.
+    #[inline]
+    fn next(&mut self, frame: &mut [u8]) -> Next {
+        let size = self.ring.len();
+        let waiting = if self.read <= self.write { self.write - self.read } else { self.write + size - self.read };
+        if waiting == 0 {
+            return Next::Waits;
+        }
+        let header = self.ring[self.read];
+        let vector = header & 0x2000_0000 != 0;
+        let (length, zeros) = if vector { (14, 0x4FFF_E000) } else { (17, 0x4FFF_0000) };
+        if header & zeros != 0 {
+            return Next::Refused(21);
+        }
+        let mut needed = length;
+        let mut after = self.read + length;
+        if header >> 31 != 0 {
+            if self.read == 0 || after > size {
+                return Next::Refused(22);
+            }
+            needed = size - self.read;
+            after = 0;
+        } else if after >= size {
+            after -= size;
+        }
+        if waiting < needed {
+            return Next::Waits;
+        }
+        let done = if vector { self.vector(header, frame) } else { self.blt(header, frame) };
+        if let Next::Done(_) = done {
+            self.read = after;
+        }
+        done
+    }
+
+    fn blt(&mut self, header: u32, frame: &mut [u8]) -> Next {
+        let words: [u32; 16] = self.words();
+        let mut loaded = self.registers;
+        for i in 0..16 {
+            loaded[i] = if header >> i & 1 != 0 { words[i] } else { loaded[i] };
+        }
+        let mut units = 1;
+        if header & 0x8000 != 0 {
+            match Blt::judged(&loaded, frame.len()) {
+                Ok(b) => {
+                    blt::draw(frame, &b, &loaded);
+                    units += b.width as u32 * b.height as u32;
+                }
+                Err(number) => return Next::Refused(number),
+            }
+        }
+        self.registers = loaded;
+        Next::Done(units)
+    }
+
+    fn vector(&mut self, header: u32, frame: &mut [u8]) -> Next {
+        let words: [u32; 13] = self.words();
+        let mut loaded = self.registers;
+        for i in 0..13 {
+            let r = VECTOR_WORDS[i];
+            loaded[r] = if header >> i & 1 != 0 { words[i] } else { loaded[r] };
+        }
+        let mut units = 1;
+        if header & 0x1000 != 0 {
+            match Vector::judged(&loaded, frame.len()) {
+                Ok(v) => {
+                    vector::draw(frame, &v);
+                    units += v.length;
+                }
+                Err(number) => return Next::Refused(number),
+            }
+        }
+        self.registers = loaded;
+        Next::Done(units)
+    }
+
+    /// The words after the header, which may run across the ring's end.
+    #[inline]
+    fn words<const N: usize>(&self) -> [u32; N] {
+        let first = self.read + 1;
+        match self.ring.get(first..first + N) {
+            Some(words) => words.try_into().unwrap(),
+            None => std::array::from_fn(|i| self.ring[(first + i) % self.ring.len()]),
+        }
+    }
+}
+
+/// Bytes a pixel, or the refusal 23: the format, and alpha.
+#[inline]
+pub fn depth_of(mode: u32) -> Result<usize, u32> {
+    if mode & 0x00C0_0000 != 0 {
+        return Err(23);
+    }
+    match mode >> 28 {
+        0 => Ok(1),
+        4..=6 => Ok(2),
+        8 => Ok(4),
+        _ => Err(23),
+    }
+}
+
+/// Whether 24 applies by what both kinds of command have: pattern inversion, channel 3, a base.
+#[inline]
+pub fn bad_both(r: &Registers) -> bool {
+    r[RASTER_MODE] & 0x1000 != 0 || r[CH3_MODE_STR] >> 31 != 0 || r[BASE_OFFSET] != 0
+}

@@ -1,0 +1,180 @@
+//! The bench: the proved engine beside a plain one. Frame memory is compared first, then both are timed.
+//!
+//! `bench [--compare] [WORD]`: only kinds with the word in their name; with --compare nothing is timed.
+
+mod blt;
+mod engine;
+mod order;
+mod raster;
+mod text;
+mod vector;
+mod workloads;
+
+use engine::Told;
+use std::path::Path;
+use std::process::ExitCode;
+use std::time::Instant;
+use workloads::{Case, Random};
+
+#[link(name = "bench", kind = "static")]
+extern "C" {
+    fn bench_draw(
+        ring: *const u32,
+        ring_length: usize,
+        frame: *mut u8,
+        frame_length: usize,
+        write: usize,
+        budget: u32,
+        retired: *mut u32,
+        number: *mut u32,
+    ) -> u32;
+}
+
+/// The proved engine.
+fn ours(ring: &[u32], frame: &mut [u8], write: usize) -> Told {
+    let mut told = Told::default();
+    // The archive's function takes two runs, each as a pointer and a length, and touches nothing else but the two numbers.
+    told.units = unsafe {
+        bench_draw(
+            ring.as_ptr(),
+            ring.len(),
+            frame.as_mut_ptr(),
+            frame.len(),
+            write,
+            u32::MAX,
+            &mut told.retired,
+            &mut told.number,
+        )
+    };
+    told
+}
+
+type Draw = fn(&[u32], &mut [u8], usize) -> Told;
+
+/// The two engines: ours, and the rival.
+const ENGINES: [Draw; 2] = [ours, engine::draw];
+
+const TURNS: usize = 9;
+const TURN: f64 = 1.5e-3;
+
+/// Frame memory that begins at a multiple of 4,096 bytes.
+struct Memory {
+    bytes: Vec<u8>,
+    first: usize,
+}
+
+impl Memory {
+    fn new(length: usize) -> Memory {
+        let bytes = vec![0; length + 4096];
+        let first = bytes.as_ptr().align_offset(4096);
+        Memory { bytes, first }
+    }
+
+    fn frame(&mut self, length: usize) -> &mut [u8] {
+        &mut self.bytes[self.first..self.first + length]
+    }
+}
+
+fn main() -> ExitCode {
+    let arguments: Vec<String> = std::env::args().skip(1).collect();
+    let compare = arguments.iter().any(|a| a == "--compare");
+    let word = arguments.iter().find(|a| !a.starts_with("--")).map_or("", |a| a);
+    let mut cases = workloads::all(word);
+    cases.extend(workloads::recordings(Path::new("recordings"), word));
+    let longest = cases.iter().map(|c| c.frame).max().unwrap_or(0);
+    let mut random = Random::new(1);
+    let start: Vec<u8> = (0..longest).map(|_| random.next() as u8).collect();
+    let mut memories = [Memory::new(longest), Memory::new(longest)];
+    for case in &mut cases {
+        if let Err(line) = agree(case, &start, &mut memories) {
+            println!("bench: {} {} bits {}: {line}", case.kind, case.bits, case.size);
+            return ExitCode::FAILURE;
+        }
+    }
+    if !compare {
+        measure(&cases, &mut memories);
+    }
+    println!("bench: {} rings drawn, frame memory the same", cases.len());
+    ExitCode::SUCCESS
+}
+
+/// Draws a case once with both engines, from the same frame memory. A recording learns how many commands and pixels it has.
+fn agree(case: &mut Case, start: &[u8], memories: &mut [Memory; 2]) -> Result<(), String> {
+    let mut told = [Told::default(); 2];
+    for i in 0..2 {
+        let frame = memories[i].frame(case.frame);
+        if case.zeros {
+            frame.fill(0);
+        } else {
+            frame.copy_from_slice(&start[..case.frame]);
+        }
+        told[i] = ENGINES[i](&case.ring, frame, case.write);
+    }
+    if told[0] != told[1] {
+        return Err(format!("ours tells {:?}, the other {:?}", told[0], told[1]));
+    }
+    let [first, second] = memories;
+    if let Some(at) = first.frame(case.frame).iter().zip(second.frame(case.frame).iter()).position(|(x, y)| x != y) {
+        return Err(format!("byte {at} of frame memory differs"));
+    }
+    if case.zeros {
+        case.commands = told[0].retired.max(1) as usize;
+        case.pixels = (told[0].units as usize).saturating_sub(case.commands);
+    } else if told[0] != (Told { units: (case.commands + case.pixels) as u32, retired: case.commands as u32, number: 0 }) {
+        return Err(format!("not all of it is drawn: {:?}", told[0]));
+    }
+    Ok(())
+}
+
+// ---- times
+
+fn seconds(draw: Draw, case: &Case, frame: &mut [u8], times: usize) -> f64 {
+    let start = Instant::now();
+    for _ in 0..times {
+        std::hint::black_box(draw(std::hint::black_box(&case.ring), frame, case.write));
+    }
+    start.elapsed().as_secs_f64()
+}
+
+/// Nanoseconds a command of both engines: the medians of turns that alternate.
+fn times(case: &Case, memories: &mut [Memory; 2]) -> [f64; 2] {
+    let mut repeats = [1; 2];
+    for i in 0..2 {
+        let frame = memories[i].frame(case.frame);
+        seconds(ENGINES[i], case, frame, 1);
+        let once = seconds(ENGINES[i], case, frame, 1);
+        repeats[i] = (TURN / once).ceil().clamp(1.0, 1e6) as usize;
+    }
+    let mut turns = [[0.0; TURNS]; 2];
+    for turn in 0..TURNS {
+        for i in 0..2 {
+            let frame = memories[i].frame(case.frame);
+            let time = seconds(ENGINES[i], case, frame, repeats[i]);
+            turns[i][turn] = time * 1e9 / (repeats[i] * case.commands) as f64;
+        }
+    }
+    turns.map(|mut t| {
+        t.sort_by(f64::total_cmp);
+        t[TURNS / 2]
+    })
+}
+
+fn measure(cases: &[Case], memories: &mut [Memory; 2]) {
+    println!("{:22} {:>4} {:>10} {:>12} {:>12} {:>6} {:>9}", "kind", "bits", "size", "ours ns", "Rust ns", "ratio", "ns/pixel");
+    let mut worst: Vec<(&str, f64)> = Vec::new();
+    for case in cases {
+        let [ours, rust] = times(case, memories);
+        let ratio = ours / rust;
+        let pixel = ours * case.commands as f64 / case.pixels.max(1) as f64;
+        println!(
+            "{:22} {:>4} {:>10} {:>12.1} {:>12.1} {:>6.2} {:>9.3}",
+            case.kind, case.bits, case.size, ours, rust, ratio, pixel
+        );
+        match worst.last_mut() {
+            Some((kind, most)) if *kind == case.kind => *most = most.max(ratio),
+            _ => worst.push((&case.kind, ratio)),
+        }
+    }
+    println!("the largest ratio of each kind:");
+    worst.iter().for_each(|(kind, ratio)| println!("{kind:22} {ratio:.2}"));
+}

@@ -1,0 +1,297 @@
+//! What is measured: rings full of commands of one kind, depth and size, and the recorded buffers.
+
+use std::path::Path;
+
+/// Pixels in a row of the screen, and its rows. As many rows again lie below it, for sources and fonts.
+const WIDE: usize = 1024;
+const HIGH: usize = 1024;
+
+pub const RING: usize = 16384;
+
+/// A ring to draw, and how much there is in it.
+pub struct Case {
+    pub kind: String,
+    pub bits: usize,
+    pub size: String,
+    pub ring: Vec<u32>,
+    pub write: usize,
+    pub frame: usize,
+    /// Commands, and pixels of all of them.
+    pub commands: usize,
+    pub pixels: usize,
+    /// Whether frame memory begins as zeros, as a recording's does.
+    pub zeros: bool,
+}
+
+/// A small generator of random numbers, the same in every run.
+pub struct Random(u64);
+
+impl Random {
+    pub fn new(seed: u64) -> Random {
+        Random(seed.wrapping_mul(0x9E37_79B9_7F4A_7C15) | 1)
+    }
+
+    pub fn next(&mut self) -> u32 {
+        self.0 ^= self.0 << 13;
+        self.0 ^= self.0 >> 7;
+        self.0 ^= self.0 << 17;
+        (self.0 >> 16) as u32
+    }
+
+    /// A number below n.
+    pub fn below(&mut self, n: usize) -> usize {
+        self.next() as usize % n
+    }
+}
+
+/// Where a copy's source lies.
+#[derive(Clone, Copy)]
+enum Source {
+    None,
+    /// To the right on the same rows, overlapping; columns go right.
+    Right,
+    /// To the left, overlapping; columns go left.
+    Left,
+    /// Below the screen.
+    Apart,
+    /// To the left, overlapping, but columns go right: each pixel reads what was written.
+    Smear,
+    /// Bits below the screen, byte-packed or in rows of a sheet.
+    Packed,
+    Sheet,
+}
+
+#[derive(Clone, Copy)]
+enum Shape {
+    Rectangle(Source),
+    Line,
+}
+
+/// A kind of command: its name, and its RASTER_MODE without the format.
+struct Kind {
+    name: &'static str,
+    shape: Shape,
+    raster: u32,
+}
+
+const MONO: u32 = 0x100;
+const PATTERN_HOLES: u32 = 0x400;
+const SOURCE_HOLES: u32 = 0x800;
+
+const fn kind(name: &'static str, source: Source, raster: u32) -> Kind {
+    Kind { name, shape: Shape::Rectangle(source), raster }
+}
+
+const fn line(name: &'static str, raster: u32) -> Kind {
+    Kind { name, shape: Shape::Line, raster }
+}
+
+const KINDS: [Kind; 27] = [
+    kind("fill F0", Source::None, 0xF0),
+    kind("copy left CC", Source::Right, 0xCC),
+    kind("copy right CC", Source::Left, 0xCC),
+    kind("copy apart CC", Source::Apart, 0xCC),
+    kind("copy smear CC", Source::Smear, 0xCC),
+    kind("xor 5A", Source::None, 0x5A),
+    kind("xor 5A source", Source::Apart, 0x5A),
+    kind("mono F0", Source::None, MONO | 0xF0),
+    kind("mono F0 holes", Source::None, MONO | PATTERN_HOLES | 0xF0),
+    kind("mono 5A", Source::None, MONO | 0x5A),
+    kind("text CC", Source::Packed, 0xCC),
+    kind("text CC holes", Source::Packed, SOURCE_HOLES | 0xCC),
+    kind("text CC sheet", Source::Sheet, 0xCC),
+    kind("text F0 holes", Source::Packed, SOURCE_HOLES | 0xF0),
+    kind("text 96", Source::Packed, 0x96),
+    kind("text 96 holes", Source::Packed, SOURCE_HOLES | 0x96),
+    kind("code A0", Source::None, 0xA0),
+    kind("code 55", Source::None, 0x55),
+    kind("code 88 source", Source::Apart, 0x88),
+    kind("code EE source", Source::Apart, 0xEE),
+    kind("code 66 source", Source::Apart, 0x66),
+    kind("code 96 source", Source::Apart, 0x96),
+    kind("code 66 left", Source::Right, 0x66),
+    kind("code 66 right", Source::Left, 0x66),
+    kind("code 66 smear", Source::Smear, 0x66),
+    line("line F0", 0xF0),
+    line("line 5A", 0x5A),
+];
+
+/// Width, height, and how many BLTs fill a ring; for lines the width is their length.
+const SIZES: [(usize, usize, usize); 6] =
+    [(1, 1, 960), (4, 4, 960), (16, 16, 960), (64, 64, 200), (256, 256, 24), (1024, 768, 3)];
+
+/// RASTER_MODE's format at a depth in bytes.
+fn format(depth: usize) -> u32 {
+    match depth {
+        1 => 0x0000_0000,
+        2 => 0x6000_0000,
+        _ => 0x8000_0000,
+    }
+}
+
+/// Every case whose kind has the word in its name.
+pub fn all(word: &str) -> Vec<Case> {
+    let mut cases = Vec::new();
+    for kind in KINDS.iter().filter(|k| k.name.contains(word)) {
+        for depth in [1, 2, 4] {
+            for (width, height, count) in SIZES {
+                cases.push(match kind.shape {
+                    Shape::Rectangle(source) => rectangles(kind, source, depth, (width, height, count)),
+                    Shape::Line => lines(kind, depth, width, count.max(64)),
+                });
+            }
+        }
+    }
+    cases
+}
+
+fn rectangles(kind: &Kind, source: Source, depth: usize, (width, height, count): (usize, usize, usize)) -> Case {
+    let mut random = Random::new((width + depth) as u64);
+    let mut ring = Vec::with_capacity(RING);
+    for _ in 0..count {
+        ring.extend(rectangle(kind, source, depth, width, height, &mut random));
+    }
+    Case {
+        kind: kind.name.to_string(),
+        bits: 8 * depth,
+        size: format!("{width} x {height}"),
+        write: ring.len(),
+        ring: filled(ring),
+        frame: 2 * HIGH * WIDE * depth,
+        commands: count,
+        pixels: count * width * height,
+        zeros: false,
+    }
+}
+
+fn filled(mut ring: Vec<u32>) -> Vec<u32> {
+    ring.resize(RING, 0);
+    ring
+}
+
+/// One BLT with all its words enabled, at a place of its own. A source that overlaps lies a quarter of the width away.
+fn rectangle(kind: &Kind, source: Source, depth: usize, width: usize, height: usize, random: &mut Random) -> [u32; 17] {
+    let stride = WIDE * depth;
+    let away = (width / 4).max(1) * depth;
+    let (x, y) = (random.below(WIDE - width + 1), 1 + random.below(HIGH - height - 1));
+    let to = y * stride + x * depth;
+    let last = width * depth - 1;
+    let below = HIGH * stride;
+    let skip = if random.below(4) == 0 { random.below(8) } else { 0 };
+    let packed = (skip + width + 7) / 8 * height;
+    let place = random.next();
+    let apart = below + random.below(HIGH - height) * stride + random.below(WIDE - width + 1) * depth;
+    let font = below + random.below(below - packed);
+    let sheet = below + random.below(HIGH - height) * stride + random.below(stride - width / 8);
+    let (to, from, mode) = match source {
+        Source::None => (to, 0, 0x000),
+        Source::Right => (to, to + away, 0x001),
+        Source::Left => (to + last, to + last - away, 0x201),
+        Source::Apart => (to, apart, 0x001),
+        Source::Smear => (to, to - away, 0x001),
+        Source::Packed => (to, font, 0x081),
+        Source::Sheet => (to, sheet, 0x041),
+    };
+    let bits = (skip as u32) << 26;
+    [
+        0x0000_FFFF,
+        format(depth) | kind.raster,
+        place & 0xFC00_0000 | to as u32,
+        bits | from as u32,
+        (stride << 16 | stride) as u32,
+        (width << 16 | height) as u32,
+        random.next(),
+        random.next(),
+        random.next(),
+        random.next(),
+        random.next(),
+        random.next(),
+        0,
+        0,
+        0,
+        0,
+        mode,
+    ]
+}
+
+// ---- lines
+
+fn lines(kind: &Kind, depth: usize, length: usize, count: usize) -> Case {
+    let mut random = Random::new((length + depth) as u64);
+    let mut ring = Vec::with_capacity(RING);
+    for i in 0..count {
+        ring.extend(one_line(kind, depth, length, i, &mut random));
+    }
+    Case {
+        kind: kind.name.to_string(),
+        bits: 8 * depth,
+        size: length.to_string(),
+        write: ring.len(),
+        ring: filled(ring),
+        frame: 2 * HIGH * WIDE * depth,
+        commands: count,
+        pixels: count * length,
+        zeros: false,
+    }
+}
+
+/// One vector with all its words enabled; the i-th goes in one of the eight directions.
+fn one_line(kind: &Kind, depth: usize, length: usize, i: usize, random: &mut Random) -> [u32; 14] {
+    let stride = WIDE * depth;
+    let octant = i % 8;
+    let major = length - 1;
+    let minor = random.below(length);
+    let (dx, dy) = if octant & 1 != 0 { (minor, major) } else { (major, minor) };
+    let (major_on, minor_on) = (octant & 2 != 0, octant & 4 != 0);
+    let (right, down) = if octant & 1 != 0 { (minor_on, major_on) } else { (major_on, minor_on) };
+    let (x, y) = (random.below(WIDE - dx), random.below(HIGH - dy));
+    let x = if right { x } else { x + dx };
+    let y = if down { y } else { y + dy };
+    let axial = 2 * minor as i32;
+    let diagonal = 2 * (minor as i32 - major as i32);
+    let error = 2 * minor as i32 - major as i32;
+    [
+        0x2000_1FFF,
+        format(depth) | kind.raster,
+        (y * stride + x * depth) as u32,
+        (axial as u32) << 16 | diagonal as u32 & 0xFFFF,
+        stride as u32,
+        (length as u32) << 16 | error as u32 & 0xFFFF,
+        random.next(),
+        random.next(),
+        0,
+        0,
+        0,
+        0,
+        0,
+        octant as u32,
+    ]
+}
+
+// ---- recordings
+
+/// The recorded buffers of a folder whose names have the word.
+pub fn recordings(folder: &Path, word: &str) -> Vec<Case> {
+    let mut files: Vec<_> = std::fs::read_dir(folder).into_iter().flatten().flatten().map(|entry| entry.path()).collect();
+    files.sort();
+    let mut cases = Vec::new();
+    for path in files.iter().filter(|path| path.extension().is_some_and(|e| e == "rec")) {
+        let kind = format!("rec {}", path.file_stem().unwrap().to_string_lossy());
+        let bytes = std::fs::read(path).unwrap();
+        let words: Vec<u32> = bytes.chunks_exact(4).map(|w| u32::from_le_bytes(w.try_into().unwrap())).collect();
+        if kind.contains(word) && words.len() > 4 {
+            cases.push(Case {
+                kind,
+                bits: 0,
+                size: String::new(),
+                write: words[2] as usize,
+                frame: words[1] as usize,
+                ring: words[4..].to_vec(),
+                commands: 1,
+                pixels: 0,
+                zeros: true,
+            });
+        }
+    }
+    cases
+}
