@@ -4,7 +4,7 @@ use crate::engine::{bad_both, depth_of, Registers};
 use crate::engine::{BLT_MODE, DST_OFFSET, PAT_COLOR_0, PAT_COLOR_1, PAT_DATA_0, PAT_DATA_1, RASTER_MODE};
 use crate::engine::{SRC_COLOR_BG, SRC_COLOR_FG, SRC_OFFSET, STRIDE, WID_HEIGHT};
 use crate::order::{self, Pair};
-use crate::raster::{self, Flat, FlatTile, Rop, RopTile, Tile, KEEP};
+use crate::raster::{self, Flat, FlatTile, Operation, Rop, RopTile, Tile};
 use crate::text::{self, Font, Inks};
 
 /// Rows of bytes in frame memory: where the first one begins, and the way to the next.
@@ -123,19 +123,18 @@ pub fn draw(frame: &mut [u8], b: &Blt, r: &Registers) {
 fn draw_solid(frame: &mut [u8], b: &Blt, r: &Registers) {
     let code = r[RASTER_MODE] & 0xFF;
     let pattern = raster::repeated(b.depth, r[PAT_COLOR_0]);
-    if code == 0xF0 {
-        return fill(frame, b, pattern);
-    }
-    let rop = Rop::of(code, pattern);
     match b.source {
-        Source::Frame(from) if rop.is_copy() => copy(frame, b, from),
-        Source::Frame(from) if rop.reads_source() => combine(frame, b, from, 1, |_| RopTile::solid(rop)),
-        _ => change(frame, b, rop.flat(raster::repeated(b.depth, r[SRC_COLOR_FG]))),
+        Source::Frame(from) if code == 0xCC => copy(frame, b, from),
+        Source::Frame(from) if raster::reads_source(code) => {
+            let rop = Rop::of(code, pattern);
+            combine(frame, b, from, |_| rop)
+        },
+        _ => change(frame, b, Flat::of(code, pattern, raster::repeated(b.depth, r[SRC_COLOR_FG]))),
     }
 }
 
 /// One colour everywhere.
-fn fill(frame: &mut [u8], b: &Blt, value: u64) {
+fn fill(frame: &mut [u8], b: &Blt, value: u32) {
     let n = b.width * b.depth;
     for j in 0..b.height {
         let at = b.to.at(j);
@@ -165,10 +164,11 @@ impl Blt {
     }
 }
 
+#[inline(never)]
 fn copy(frame: &mut [u8], b: &Blt, from: Rows) {
     for j in 0..b.height {
         let pair = b.pair(from, j);
-        if b.width > 1 && pair.smears() {
+        if pair.smears() {
             order::copy(frame, b.depth, pair);
         } else {
             frame.copy_within(pair.from..pair.from + pair.bytes, pair.to);
@@ -176,64 +176,71 @@ fn copy(frame: &mut [u8], b: &Blt, from: Rows) {
     }
 }
 
-/// Combines each row with its source. The operations of row j are those of row j % period.
-fn combine(frame: &mut [u8], b: &Blt, from: Rows, period: usize, tile: impl Fn(usize) -> RopTile) {
-    let mut tiles = [RopTile::solid(KEEP); 8];
+/// Combines each row with its source, row j by the j-th operation.
+#[inline(never)]
+fn combine<O: Operation>(frame: &mut [u8], b: &Blt, from: Rows, operation: impl Fn(usize) -> O) {
     for j in 0..b.height {
-        let k = j % period;
-        if j < period {
-            tiles[k] = tile(j);
+        let pair = b.pair(from, j);
+        let Pair { from, to, bytes, .. } = pair;
+        let o = operation(j);
+        if from + bytes <= to {
+            let (low, high) = frame.split_at_mut(to);
+            raster::combine(&mut high[..bytes], &low[from..from + bytes], &o);
+        } else if to + bytes <= from {
+            let (low, high) = frame.split_at_mut(from);
+            raster::combine(&mut low[to..to + bytes], &high[..bytes], &o);
+        } else if pair.smears() {
+            order::combine(frame, b.depth, pair, &o);
+        } else {
+            combine_overlapping(frame, pair, &o);
         }
-        combine_row(frame, b, b.pair(from, j), &tiles[k]);
     }
 }
 
-fn combine_row(frame: &mut [u8], b: &Blt, pair: Pair, tile: &RopTile) {
-    let Pair { from, to, bytes, .. } = pair;
-    if from + bytes <= to {
-        let (low, high) = frame.split_at_mut(to);
-        raster::combine(&mut high[..bytes], &low[from..from + bytes], tile);
-    } else if to + bytes <= from {
-        let (low, high) = frame.split_at_mut(from);
-        raster::combine(&mut low[to..to + bytes], &high[..bytes], tile);
-    } else if b.width > 1 && pair.smears() {
-        order::combine(frame, b.depth, pair, tile);
-    } else {
-        combine_blocks(frame, pair, tile);
-    }
-}
-
-/// A row that overlaps its source and meets no byte that it has overwritten: through a buffer, block by block in its direction.
-fn combine_blocks(frame: &mut [u8], pair: Pair, tile: &RopTile) {
+/// A row that overlaps its source and meets no byte that it has overwritten: block by block in its direction, the source of each
+/// read whole before it is written.
+#[inline(never)]
+fn combine_overlapping(frame: &mut [u8], pair: Pair, o: &impl Operation) {
     const BLOCK: usize = 256;
-    let mut buffer = [0u8; BLOCK];
-    let mut block = |at: usize| {
-        let m = BLOCK.min(pair.bytes - at);
-        let (s, d) = (pair.from + at, pair.to + at);
-        buffer[..m].copy_from_slice(&frame[s..s + m]);
-        raster::combine(&mut frame[d..d + m], &buffer[..m], tile);
+    let Pair { from, to, bytes, left } = pair;
+    if bytes < BLOCK {
+        return combine_tiles(frame, pair, o);
+    }
+    let whole = bytes / BLOCK * BLOCK;
+    let rest = Pair { from: from + whole, to: to + whole, bytes: bytes - whole, left };
+    let block = |frame: &mut [u8], at: usize| {
+        let source: [u8; BLOCK] = frame[from + at..from + at + BLOCK].try_into().unwrap();
+        raster::combine(&mut frame[to + at..to + at + BLOCK], &source, o);
     };
-    let blocks = (0..pair.bytes).step_by(BLOCK);
-    if pair.left {
-        blocks.rev().for_each(&mut block);
+    if left {
+        combine_tiles(frame, rest, o);
+        (0..whole).step_by(BLOCK).rev().for_each(|at| block(frame, at));
     } else {
-        blocks.for_each(&mut block);
+        (0..whole).step_by(BLOCK).for_each(|at| block(frame, at));
+        combine_tiles(frame, rest, o);
+    }
+}
+
+/// The same of a short row, by smaller blocks.
+fn combine_tiles(frame: &mut [u8], pair: Pair, o: &impl Operation) {
+    let Pair { from, to, bytes, left } = pair;
+    let whole = bytes / 32 * 32;
+    let tile = |frame: &mut [u8], at: usize| {
+        let new: [u8; 32] = o.part(&frame[to + at..to + at + 32], &frame[from + at..from + at + 32]);
+        frame[to + at..to + at + 32].copy_from_slice(&new);
+    };
+    if !left {
+        (0..whole).step_by(32).for_each(|at| tile(frame, at));
+    }
+    let mut source = [0; 32];
+    source[..bytes - whole].copy_from_slice(&frame[from + whole..from + bytes]);
+    o.last(&mut frame[to + whole..to + bytes], &source[..bytes - whole]);
+    if left {
+        (0..whole).step_by(32).rev().for_each(|at| tile(frame, at));
     }
 }
 
 // ---- mono patterns
-
-/// The raster operations of a pattern's clear and set bits; of a solid one both are one.
-#[inline]
-fn operations(b: &Blt, r: &Registers) -> (Rop, Rop) {
-    let mode = r[RASTER_MODE];
-    let first = Rop::of(mode, raster::repeated(b.depth, r[PAT_COLOR_0]));
-    match mode >> 8 & 5 {
-        0 | 4 => (first, first),
-        1 => (first, Rop::of(mode, raster::repeated(b.depth, r[PAT_COLOR_1]))),
-        _ => (KEEP, Rop::of(mode, raster::repeated(b.depth, r[PAT_COLOR_1]))),
-    }
-}
 
 /// The bits of the pattern row that row j gets, from its lowest byte on, as a mask.
 #[inline]
@@ -246,29 +253,31 @@ fn pattern_mask(b: &Blt, r: &Registers, j: usize) -> Tile {
 }
 
 /// A mono pattern, and no mono source.
+#[inline(never)]
 fn draw_mono(frame: &mut [u8], b: &Blt, r: &Registers) {
-    let (clear, set) = operations(b, r);
+    let code = r[RASTER_MODE];
+    let holes = code & 0x400 != 0;
+    let [clear, set, source] = [PAT_COLOR_0, PAT_COLOR_1, SRC_COLOR_FG].map(|i| raster::repeated(b.depth, r[i]));
     match b.source {
-        Source::Frame(from) if clear.reads_source() || set.reads_source() => {
-            combine(frame, b, from, 8, |j| RopTile::chosen(clear, set, &pattern_mask(b, r, j)));
+        Source::Frame(from) if raster::reads_source(code) => {
+            let set = Rop::of(code, set);
+            let clear = if holes { Rop::KEEP } else { Rop::of(code, clear) };
+            combine(frame, b, from, |j| RopTile::chosen(clear, set, &pattern_mask(b, r, j)));
         }
         _ => {
-            let source = raster::repeated(b.depth, r[SRC_COLOR_FG]);
-            change_mono(frame, b, r, clear.flat(source), set.flat(source));
+            let clear = if holes { Flat::KEEP } else { Flat::of(code, clear, source) };
+            change_mono(frame, b, r, clear, Flat::of(code, set, source));
         }
     }
 }
 
 /// Two operations without a source, by the pattern's bits.
+#[inline(never)]
 fn change_mono(frame: &mut [u8], b: &Blt, r: &Registers, clear: Flat, set: Flat) {
     let stores = clear.and | set.and == 0;
     let n = b.width * b.depth;
-    let mut tiles = [FlatTile { and: [0; 4], xor: [0; 4] }; 8];
-    for j in 0..b.height {
-        let tile = &mut tiles[j % 8];
-        if j < 8 {
-            *tile = FlatTile::chosen(clear, set, &pattern_mask(b, r, j));
-        }
+    let tile = |j: usize| FlatTile::chosen(clear, set, &pattern_mask(b, r, j));
+    let mut draw = |j: usize, tile: &FlatTile| {
         let at = b.to.at(j);
         let row = &mut frame[at..at + n];
         if stores {
@@ -276,18 +285,24 @@ fn change_mono(frame: &mut [u8], b: &Blt, r: &Registers, clear: Flat, set: Flat)
         } else {
             raster::change_tile(row, tile);
         }
+    };
+    if b.height <= 8 {
+        (0..b.height).for_each(|j| draw(j, &tile(j)));
+    } else {
+        let tiles: [FlatTile; 8] = std::array::from_fn(tile);
+        (0..b.height).for_each(|j| draw(j, &tiles[j % 8]));
     }
 }
 
 // ---- mono sources
 
-/// What pixels get where the source's bit is clear, and where it is set, by a raster operation with its pattern.
+/// What pixels get where the source's bit is clear, and where it is set, at a pattern value.
 #[inline]
-fn inks(b: &Blt, r: &Registers, rop: Rop) -> Inks {
+fn inks(b: &Blt, r: &Registers, pattern: u32) -> Inks {
     let mode = r[RASTER_MODE];
-    let set = rop.flat(raster::repeated(b.depth, r[SRC_COLOR_FG]));
-    let opaque = rop.flat(raster::repeated(b.depth, r[SRC_COLOR_BG]));
-    let clear = if mode & 0x800 != 0 { KEEP.flat(0) } else { opaque };
+    let [back, fore] = [SRC_COLOR_BG, SRC_COLOR_FG].map(|i| raster::repeated(b.depth, r[i]));
+    let set = Flat::of(mode, pattern, fore);
+    let clear = if mode & 0x800 != 0 { Flat::KEEP } else { Flat::of(mode, pattern, back) };
     if mode & 0x2000 != 0 {
         Inks { clear: set, set: clear }
     } else {
@@ -295,24 +310,19 @@ fn inks(b: &Blt, r: &Registers, rop: Rop) -> Inks {
     }
 }
 
+#[inline(never)]
 fn draw_text(frame: &mut [u8], b: &Blt, r: &Registers, font: Font) {
-    let (clear, set) = operations(b, r);
-    let (by_clear, by_set) = (inks(b, r, clear), inks(b, r, set));
-    let n = b.width * b.depth;
-    let solid = r[RASTER_MODE] & 0x100 == 0;
+    let first = inks(b, r, raster::repeated(b.depth, r[PAT_COLOR_0]));
+    if r[RASTER_MODE] & 0x100 == 0 {
+        return text::draw(frame, b, font, first);
+    }
+    let holes = Inks { clear: Flat::KEEP, set: Flat::KEEP };
+    let clear = if r[RASTER_MODE] & 0x400 != 0 { holes } else { first };
+    let set = inks(b, r, raster::repeated(b.depth, r[PAT_COLOR_1]));
     for j in 0..b.height {
-        let (from, to) = (font.rows.at(j), b.to.at(j));
-        if solid && from + font.bytes <= to {
-            let (low, high) = frame.split_at_mut(to);
-            text::expand(&mut high[..n], b.depth, &low[from..from + font.bytes], font.skip, by_set);
-        } else if solid && to + n <= from {
-            let (low, high) = frame.split_at_mut(from);
-            text::expand(&mut low[to..to + n], b.depth, &high[..font.bytes], font.skip, by_set);
-        } else {
-            let mask = pattern_mask(b, r, j);
-            let clears = FlatTile::chosen(by_clear.clear, by_set.clear, &mask);
-            let sets = FlatTile::chosen(by_clear.set, by_set.set, &mask);
-            text::expand_in_order(frame, b, to, from, font.skip, &clears, &sets);
-        }
+        let mask = pattern_mask(b, r, j);
+        let clears = FlatTile::chosen(clear.clear, set.clear, &mask);
+        let sets = FlatTile::chosen(clear.set, set.set, &mask);
+        text::draw_in_order(frame, b, font, j, &clears, &sets);
     }
 }

@@ -125,10 +125,11 @@ impl Engine<'_> {
     }
 
     fn blt(&mut self, header: u32, frame: &mut [u8]) -> Next {
-        let words: [u32; 16] = self.words();
         let mut loaded = self.registers;
-        for i in 0..16 {
-            loaded[i] = if header >> i & 1 != 0 { words[i] } else { loaded[i] };
+        let first = self.read + 1;
+        match self.ring.get(first..first + 16) {
+            Some(words) => load_blt(header, words.try_into().unwrap(), &mut loaded),
+            None => load_blt(header, &self.words_across(), &mut loaded),
         }
         let mut units = 1;
         if header & 0x8000 != 0 {
@@ -145,11 +146,11 @@ impl Engine<'_> {
     }
 
     fn vector(&mut self, header: u32, frame: &mut [u8]) -> Next {
-        let words: [u32; 13] = self.words();
         let mut loaded = self.registers;
-        for i in 0..13 {
-            let r = VECTOR_WORDS[i];
-            loaded[r] = if header >> i & 1 != 0 { words[i] } else { loaded[r] };
+        let first = self.read + 1;
+        match self.ring.get(first..first + 13) {
+            Some(words) => load_vector(header, words.try_into().unwrap(), &mut loaded),
+            None => load_vector(header, &self.words_across(), &mut loaded),
         }
         let mut units = 1;
         if header & 0x1000 != 0 {
@@ -165,14 +166,29 @@ impl Engine<'_> {
         Next::Done(units)
     }
 
-    /// The words after the header, which may run across the ring's end.
-    #[inline]
-    fn words<const N: usize>(&self) -> [u32; N] {
-        let first = self.read + 1;
-        match self.ring.get(first..first + N) {
-            Some(words) => words.try_into().unwrap(),
-            None => std::array::from_fn(|i| self.ring[(first + i) % self.ring.len()]),
-        }
+    /// The words after the header, which run across the ring's end.
+    #[cold]
+    fn words_across<const N: usize>(&self) -> [u32; N] {
+        std::array::from_fn(|i| self.ring[(self.read + 1 + i) % self.ring.len()])
+    }
+}
+
+/// Puts the enabled words of a BLT into its registers.
+#[inline(never)]
+fn load_blt(header: u32, words: &[u32; 16], registers: &mut Registers) {
+    for i in 0..16 {
+        let enabled = if header & 1 << i != 0 { !0 } else { 0 };
+        registers[i] ^= (registers[i] ^ words[i]) & enabled;
+    }
+}
+
+/// The same of a vector.
+#[inline(never)]
+fn load_vector(header: u32, words: &[u32; 13], registers: &mut Registers) {
+    for i in 0..13 {
+        let r = &mut registers[VECTOR_WORDS[i]];
+        let enabled = if header & 1 << i != 0 { !0 } else { 0 };
+        *r ^= (*r ^ words[i]) & enabled;
     }
 }
 

@@ -1,9 +1,11 @@
 //! The bench: the proved engine beside a plain one. Frame memory is compared first, then both are timed.
 //!
-//! `bench [--compare] [WORD]`: only kinds with the word in their name; with --compare nothing is timed.
+//! `bench [--compare | --best] [WORD]`: only kinds with the word in their name; with --compare nothing is timed; with --best
+//! the fastest turn counts in place of the median, for a machine that does other work beside.
 
 mod blt;
 mod engine;
+mod mixed;
 mod order;
 mod raster;
 mod text;
@@ -14,7 +16,7 @@ use engine::Told;
 use std::path::Path;
 use std::process::ExitCode;
 use std::time::Instant;
-use workloads::{Case, Random};
+use workloads::Case;
 
 #[link(name = "bench", kind = "static")]
 extern "C" {
@@ -73,42 +75,43 @@ impl Memory {
     fn frame(&mut self, length: usize) -> &mut [u8] {
         &mut self.bytes[self.first..self.first + length]
     }
+
+    /// Frame memory as it is before a case.
+    fn begin(&mut self, case: &Case, start: &[u8]) -> &mut [u8] {
+        let frame = self.frame(case.frame);
+        frame.copy_from_slice(&start[..case.frame]);
+        frame
+    }
 }
 
 fn main() -> ExitCode {
     let arguments: Vec<String> = std::env::args().skip(1).collect();
-    let compare = arguments.iter().any(|a| a == "--compare");
+    let has = |option: &str| arguments.iter().any(|a| a == option);
     let word = arguments.iter().find(|a| !a.starts_with("--")).map_or("", |a| a);
     let mut cases = workloads::all(word);
     cases.extend(workloads::recordings(Path::new("recordings"), word));
-    let longest = cases.iter().map(|c| c.frame).max().unwrap_or(0);
-    let mut random = Random::new(1);
-    let start: Vec<u8> = (0..longest).map(|_| random.next() as u8).collect();
+    let longest = cases.iter().map(|c| c.frame).max().unwrap_or(0).max(1 << 16);
+    let start = workloads::start(longest);
     let mut memories = [Memory::new(longest), Memory::new(longest)];
-    for case in &mut cases {
+    let mut mixed = mixed::all(word);
+    for case in cases.iter_mut().chain(&mut mixed) {
         if let Err(line) = agree(case, &start, &mut memories) {
             println!("bench: {} {} bits {}: {line}", case.kind, case.bits, case.size);
             return ExitCode::FAILURE;
         }
     }
-    if !compare {
-        measure(&cases, &mut memories);
+    if !has("--compare") {
+        measure(&cases, &start, &mut memories, if has("--best") { 0 } else { TURNS / 2 });
     }
-    println!("bench: {} rings drawn, frame memory the same", cases.len());
+    println!("bench: {} rings drawn, frame memory the same", cases.len() + mixed.len());
     ExitCode::SUCCESS
 }
 
-/// Draws a case once with both engines, from the same frame memory. A recording learns how many commands and pixels it has.
+/// Draws a case once with both engines, from the same frame memory. A mixed one learns how much of it is drawn.
 fn agree(case: &mut Case, start: &[u8], memories: &mut [Memory; 2]) -> Result<(), String> {
     let mut told = [Told::default(); 2];
     for i in 0..2 {
-        let frame = memories[i].frame(case.frame);
-        if case.zeros {
-            frame.fill(0);
-        } else {
-            frame.copy_from_slice(&start[..case.frame]);
-        }
-        told[i] = ENGINES[i](&case.ring, frame, case.write);
+        told[i] = ENGINES[i](&case.ring, memories[i].begin(case, start), case.write);
     }
     if told[0] != told[1] {
         return Err(format!("ours tells {:?}, the other {:?}", told[0], told[1]));
@@ -117,7 +120,7 @@ fn agree(case: &mut Case, start: &[u8], memories: &mut [Memory; 2]) -> Result<()
     if let Some(at) = first.frame(case.frame).iter().zip(second.frame(case.frame).iter()).position(|(x, y)| x != y) {
         return Err(format!("byte {at} of frame memory differs"));
     }
-    if case.zeros {
+    if case.mixed {
         case.commands = told[0].retired.max(1) as usize;
         case.pixels = (told[0].units as usize).saturating_sub(case.commands);
     } else if told[0] != (Told { units: (case.commands + case.pixels) as u32, retired: case.commands as u32, number: 0 }) {
@@ -136,11 +139,11 @@ fn seconds(draw: Draw, case: &Case, frame: &mut [u8], times: usize) -> f64 {
     start.elapsed().as_secs_f64()
 }
 
-/// Nanoseconds a command of both engines: the medians of turns that alternate.
-fn times(case: &Case, memories: &mut [Memory; 2]) -> [f64; 2] {
+/// Nanoseconds a command of both engines, of turns that alternate: of the one with this rank, the fastest being 0.
+fn times(case: &Case, start: &[u8], memories: &mut [Memory; 2], rank: usize) -> [f64; 2] {
     let mut repeats = [1; 2];
     for i in 0..2 {
-        let frame = memories[i].frame(case.frame);
+        let frame = memories[i].begin(case, start);
         seconds(ENGINES[i], case, frame, 1);
         let once = seconds(ENGINES[i], case, frame, 1);
         repeats[i] = (TURN / once).ceil().clamp(1.0, 1e6) as usize;
@@ -155,15 +158,15 @@ fn times(case: &Case, memories: &mut [Memory; 2]) -> [f64; 2] {
     }
     turns.map(|mut t| {
         t.sort_by(f64::total_cmp);
-        t[TURNS / 2]
+        t[rank]
     })
 }
 
-fn measure(cases: &[Case], memories: &mut [Memory; 2]) {
+fn measure(cases: &[Case], start: &[u8], memories: &mut [Memory; 2], rank: usize) {
     println!("{:22} {:>4} {:>10} {:>12} {:>12} {:>6} {:>9}", "kind", "bits", "size", "ours ns", "Rust ns", "ratio", "ns/pixel");
     let mut worst: Vec<(&str, f64)> = Vec::new();
     for case in cases {
-        let [ours, rust] = times(case, memories);
+        let [ours, rust] = times(case, start, memories, rank);
         let ratio = ours / rust;
         let pixel = ours * case.commands as f64 / case.pixels.max(1) as f64;
         println!(

@@ -1,6 +1,6 @@
 //! Pixel by pixel, in order: for a row that reads what it has written. Cells let the two parts of frame memory overlap.
 
-use crate::raster::RopTile;
+use crate::raster::Operation;
 use std::cell::Cell;
 
 /// Two rows of one length in frame memory, in bytes, and the direction of their columns.
@@ -13,7 +13,7 @@ pub struct Pair {
 }
 
 impl Pair {
-    /// Whether a copy of more than one pixel, in its order, meets a byte that it has overwritten.
+    /// Whether a copy, in its order, may meet a byte that it has overwritten.
     #[inline]
     pub fn smears(self) -> bool {
         let ahead = if self.left { self.from.wrapping_sub(self.to) } else { self.to.wrapping_sub(self.from) };
@@ -58,6 +58,7 @@ fn copy_pixels<const DEPTH: usize>(frame: &mut [u8], pair: Pair) {
 }
 
 /// Copies a row.
+#[inline(never)]
 pub fn copy(frame: &mut [u8], depth: usize, pair: Pair) {
     match depth {
         1 => copy_pixels::<1>(frame, pair),
@@ -66,12 +67,11 @@ pub fn copy(frame: &mut [u8], depth: usize, pair: Pair) {
     }
 }
 
-fn combine_pixels<const DEPTH: usize>(frame: &mut [u8], pair: Pair, tile: &RopTile) {
+fn combine_pixels<const DEPTH: usize>(frame: &mut [u8], pair: Pair, operation: &impl Operation) {
     let (from, to) = pair.cells(frame);
     let pixels = from.chunks_exact(DEPTH).zip(to.chunks_exact(DEPTH)).enumerate();
     let one = |(i, (f, t)): (usize, (&[Cell<u8>], &[Cell<u8>]))| {
-        let value = tile.at(i * DEPTH).apply(get::<DEPTH>(f) as u64, get::<DEPTH>(t) as u64);
-        put::<DEPTH>(t, value as u32);
+        put::<DEPTH>(t, operation.at(i * DEPTH).apply(get::<DEPTH>(f), get::<DEPTH>(t)));
     };
     if pair.left {
         pixels.rev().for_each(one);
@@ -81,10 +81,11 @@ fn combine_pixels<const DEPTH: usize>(frame: &mut [u8], pair: Pair, tile: &RopTi
 }
 
 /// Combines a row with its source.
-pub fn combine(frame: &mut [u8], depth: usize, pair: Pair, tile: &RopTile) {
+#[inline(never)]
+pub fn combine(frame: &mut [u8], depth: usize, pair: Pair, operation: &impl Operation) {
     match depth {
-        1 => combine_pixels::<1>(frame, pair, tile),
-        2 => combine_pixels::<2>(frame, pair, tile),
-        _ => combine_pixels::<4>(frame, pair, tile),
+        1 => combine_pixels::<1>(frame, pair, operation),
+        2 => combine_pixels::<2>(frame, pair, operation),
+        _ => combine_pixels::<4>(frame, pair, operation),
     }
 }

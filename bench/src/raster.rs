@@ -1,47 +1,67 @@
 //! The raster operation on many bytes at once, and rows of bytes written by it.
+//!
+//! A row is worked on four bytes at a time, whatever the depth: colours are repeated through a word, and the operation is the
+//! same at each bit. The compiler makes wide stores of such loops.
 
 /// 32 bytes: eight pixels, or a whole number of times eight.
-pub type Tile = [u64; 4];
+pub type Tile = [u32; 8];
 
-/// A colour at a depth, repeated through eight bytes.
+/// A colour at a depth, repeated through a word.
 #[inline]
-pub fn repeated(depth: usize, color: u32) -> u64 {
+pub fn repeated(depth: usize, color: u32) -> u32 {
     match depth {
-        1 => (color & 0xFF) as u64 * 0x0101_0101_0101_0101,
-        2 => (color & 0xFFFF) as u64 * 0x0001_0001_0001_0001,
-        _ => color as u64 * 0x0000_0001_0000_0001,
+        1 => (color & 0xFF) * 0x0101_0101,
+        2 => (color & 0xFFFF) * 0x0001_0001,
+        _ => color,
     }
+}
+
+/// For each byte its eight bits, the highest first, as eight pixels of all ones or all zeros, at each depth.
+pub static MASKS_1: [[u32; 2]; 256] = masks(1);
+pub static MASKS_2: [[u32; 4]; 256] = masks(2);
+pub static MASKS_4: [[u32; 8]; 256] = masks(4);
+
+const fn masks<const W: usize>(depth: usize) -> [[u32; W]; 256] {
+    let mut table = [[0; W]; 256];
+    let mut i = 0;
+    while i < 256 * 8 * depth {
+        let (bits, byte) = (i / (8 * depth), i % (8 * depth));
+        if bits << (byte / depth) & 0x80 != 0 {
+            table[bits][byte / 4] |= 0xFF << (8 * (byte % 4));
+        }
+        i += 1;
+    }
+    table
 }
 
 /// Eight bits, the highest first, as eight pixels of all ones or all zeros, repeated through a tile.
 #[inline]
 pub fn spread(depth: usize, bits: u8) -> Tile {
-    let mut bytes = [0u8; 32];
-    let on = |k: usize| if bits & (0x80 >> k) != 0 { 0xFF } else { 0 };
     match depth {
-        1 => (0..32).for_each(|k| bytes[k] = on(k % 8)),
-        2 => (0..32).for_each(|k| bytes[k] = on(k / 2 % 8)),
-        _ => (0..32).for_each(|k| bytes[k] = on(k / 4)),
+        1 => std::array::from_fn(|i| MASKS_1[bits as usize][i % 2]),
+        2 => std::array::from_fn(|i| MASKS_2[bits as usize][i % 4]),
+        _ => MASKS_4[bits as usize],
     }
-    std::array::from_fn(|i| word(&bytes[8 * i..8 * i + 8]))
 }
+
+// ---- operations
 
 /// A raster code with a pattern value: `a ^ (d & b) ^ (s & (c ^ (d & e)))`.
 #[derive(Clone, Copy)]
 pub struct Rop {
-    pub a: u64,
-    pub b: u64,
-    pub c: u64,
-    pub e: u64,
+    pub a: u32,
+    pub b: u32,
+    pub c: u32,
+    pub e: u32,
 }
 
-/// Leaves what stands there.
-pub const KEEP: Rop = Rop { a: 0, b: !0, c: 0, e: 0 };
-
 impl Rop {
+    /// Leaves what stands there.
+    pub const KEEP: Rop = Rop { a: 0, b: !0, c: 0, e: 0 };
+
     #[inline]
-    pub fn of(code: u32, pattern: u64) -> Rop {
-        let all = |i: u32| ((code >> i & 1) as u64).wrapping_neg();
+    pub fn of(code: u32, pattern: u32) -> Rop {
+        let all = |i: u32| (code >> i & 1).wrapping_neg();
         let both = |i: u32| (all(i) & !pattern) | (all(i + 4) & pattern);
         let (none, d, s, ds) = (both(0), both(1), both(2), both(3));
         Rop { a: none, b: none ^ d, c: none ^ s, e: none ^ d ^ s ^ ds }
@@ -49,38 +69,54 @@ impl Rop {
 
     /// Of one source value.
     #[inline]
-    pub fn flat(self, source: u64) -> Flat {
+    pub fn flat(self, source: u32) -> Flat {
         Flat { and: self.b ^ (source & self.e), xor: self.a ^ (source & self.c) }
     }
 
     #[inline]
-    pub fn reads_source(self) -> bool {
-        self.c | self.e != 0
-    }
-
-    #[inline]
-    pub fn is_copy(self) -> bool {
-        self.a | self.b | self.e == 0 && self.c == !0
-    }
-
-    #[inline]
-    pub fn apply(self, source: u64, there: u64) -> u64 {
+    pub fn apply(self, source: u32, there: u32) -> u32 {
         self.a ^ (there & self.b) ^ (source & (self.c ^ (there & self.e)))
     }
 }
 
-/// What is left of it without a source: `(d & and) ^ xor`.
+/// Whether a raster code looks at the source.
+#[inline]
+pub fn reads_source(code: u32) -> bool {
+    (code ^ code >> 2) & 0x33 != 0
+}
+
+/// What is left of it where the source is one value: `(d & and) ^ xor`.
 #[derive(Clone, Copy)]
 pub struct Flat {
-    pub and: u64,
-    pub xor: u64,
+    pub and: u32,
+    pub xor: u32,
 }
 
 impl Flat {
+    /// Leaves what stands there.
+    pub const KEEP: Flat = Flat { and: !0, xor: 0 };
+
+    /// A raster code with a pattern and a source value, by a short way where there is one.
     #[inline]
-    pub fn apply(self, there: u64) -> u64 {
+    pub fn of(code: u32, pattern: u32, source: u32) -> Flat {
+        match code & 0xFF {
+            0xF0 => Flat { and: 0, xor: pattern },
+            0xCC => Flat { and: 0, xor: source },
+            0x5A => Flat { and: !0, xor: pattern },
+            _ => Rop::of(code, pattern).flat(source),
+        }
+    }
+
+    #[inline]
+    pub fn apply(self, there: u32) -> u32 {
         (there & self.and) ^ self.xor
     }
+}
+
+/// One word where the mask is clear, another where it is set.
+#[inline]
+fn chosen(clear: u32, set: u32, mask: &Tile) -> Tile {
+    mask.map(|m| clear ^ (m & (clear ^ set)))
 }
 
 /// The same for eight pixels that differ.
@@ -88,6 +124,30 @@ impl Flat {
 pub struct FlatTile {
     pub and: Tile,
     pub xor: Tile,
+}
+
+impl FlatTile {
+    #[inline]
+    pub fn solid(f: Flat) -> FlatTile {
+        FlatTile { and: [f.and; 8], xor: [f.xor; 8] }
+    }
+
+    #[inline]
+    pub fn chosen(clear: Flat, set: Flat, mask: &Tile) -> FlatTile {
+        FlatTile { and: chosen(clear.and, set.and, mask), xor: chosen(clear.xor, set.xor, mask) }
+    }
+
+    #[inline]
+    fn word(&self, i: usize) -> Flat {
+        Flat { and: self.and[i], xor: self.xor[i] }
+    }
+
+    /// The operation of the pixel at a byte of the row.
+    #[inline]
+    pub fn at(&self, byte: usize) -> Flat {
+        let (f, shift) = (self.word(byte / 4 % 8), 8 * (byte % 4));
+        Flat { and: f.and >> shift, xor: f.xor >> shift }
+    }
 }
 
 /// A raster code with the eight pixels of a pattern row.
@@ -99,32 +159,7 @@ pub struct RopTile {
     e: Tile,
 }
 
-/// One word where the mask is clear, another where it is set.
-#[inline]
-fn chosen(clear: u64, set: u64, mask: &Tile) -> Tile {
-    mask.map(|m| clear ^ (m & (clear ^ set)))
-}
-
-impl FlatTile {
-    #[inline]
-    pub fn chosen(clear: Flat, set: Flat, mask: &Tile) -> FlatTile {
-        FlatTile { and: chosen(clear.and, set.and, mask), xor: chosen(clear.xor, set.xor, mask) }
-    }
-
-    /// The operation of the pixel at a byte of the row.
-    #[inline]
-    pub fn at(&self, byte: usize) -> Flat {
-        let (i, shift) = (byte / 8 % 4, 8 * (byte % 8));
-        Flat { and: self.and[i] >> shift, xor: self.xor[i] >> shift }
-    }
-}
-
 impl RopTile {
-    #[inline]
-    pub fn solid(rop: Rop) -> RopTile {
-        RopTile { a: [rop.a; 4], b: [rop.b; 4], c: [rop.c; 4], e: [rop.e; 4] }
-    }
-
     #[inline]
     pub fn chosen(clear: Rop, set: Rop, mask: &Tile) -> RopTile {
         RopTile {
@@ -134,67 +169,118 @@ impl RopTile {
             e: chosen(clear.e, set.e, mask),
         }
     }
+}
 
-    #[inline]
-    fn word(&self, i: usize) -> Rop {
-        Rop { a: self.a[i], b: self.b[i], c: self.c[i], e: self.e[i] }
+/// What a row with a colour source is combined by: one operation, or those of a pattern row.
+pub trait Operation {
+    /// That of the pixel at a byte of the row, in its low bytes.
+    fn at(&self, byte: usize) -> Rop;
+    /// That of word i of a tile.
+    fn word(&self, i: usize) -> Rop;
+
+    /// What a tile or the first part of one becomes: all of it is read before it is written.
+    #[inline(always)]
+    fn part<const N: usize>(&self, row: &[u8], source: &[u8]) -> [u8; N] {
+        let mut new = [0; N];
+        for i in 0..N / 4 {
+            let at = 4 * i..4 * i + 4;
+            put(&mut new[at.clone()], self.word(i).apply(get(&source[at.clone()]), get(&row[at])));
+        }
+        new
     }
 
-    /// The operation of the pixel at a byte of the row.
-    #[inline]
-    pub fn at(&self, byte: usize) -> Rop {
-        let (rop, shift) = (self.word(byte / 8 % 4), 8 * (byte % 8));
+    /// Combines fewer than 32 bytes.
+    #[inline(always)]
+    fn last(&self, row: &mut [u8], source: &[u8]) {
+        let end = self.word(row.len() / 4 % 8);
+        let half = row.len() & 16;
+        if half != 0 {
+            let new: [u8; 16] = self.part(&row[..16], &source[..16]);
+            row[..16].copy_from_slice(&new);
+        }
+        let (mut words, mut sources) = (row[half..].chunks_exact_mut(4), source[half..].chunks_exact(4));
+        for (i, (w, s)) in (0..3).zip((&mut words).zip(&mut sources)) {
+            put(w, self.word(half / 4 + i).apply(get(s), get(w)));
+        }
+        for (i, (to, from)) in words.into_remainder().iter_mut().zip(sources.remainder()).enumerate().take(3) {
+            *to = (end.apply((*from as u32) << (8 * i), (*to as u32) << (8 * i)) >> (8 * i)) as u8;
+        }
+    }
+}
+
+/// Combines each pixel with one of a source row of the same length.
+#[inline(never)]
+pub fn combine(row: &mut [u8], source: &[u8], o: &impl Operation) {
+    let (mut tiles, mut sources) = (row.chunks_exact_mut(32), source.chunks_exact(32));
+    for (t, s) in (&mut tiles).zip(&mut sources) {
+        let new: [u8; 32] = o.part(t, s);
+        t.copy_from_slice(&new);
+    }
+    o.last(tiles.into_remainder(), sources.remainder());
+}
+
+impl Operation for Rop {
+    #[inline(always)]
+    fn at(&self, _byte: usize) -> Rop {
+        *self
+    }
+
+    #[inline(always)]
+    fn word(&self, _i: usize) -> Rop {
+        *self
+    }
+}
+
+impl Operation for RopTile {
+    #[inline(always)]
+    fn at(&self, byte: usize) -> Rop {
+        let (rop, shift) = (self.word(byte / 4 % 8), 8 * (byte % 4));
         Rop { a: rop.a >> shift, b: rop.b >> shift, c: rop.c >> shift, e: rop.e >> shift }
+    }
+
+    #[inline(always)]
+    fn word(&self, i: usize) -> Rop {
+        Rop { a: self.a[i], b: self.b[i], c: self.c[i], e: self.e[i] }
     }
 }
 
 // ---- words of a row
 
-#[inline]
-fn word(bytes: &[u8]) -> u64 {
-    u64::from_le_bytes(bytes.try_into().unwrap())
+#[inline(always)]
+pub fn get(bytes: &[u8]) -> u32 {
+    u32::from_le_bytes(bytes.try_into().unwrap())
 }
 
-/// Fewer than eight bytes as a word.
-#[inline]
-fn part(bytes: &[u8]) -> u64 {
-    let n = bytes.len();
-    if n >= 4 {
-        let low = u32::from_le_bytes(bytes[..4].try_into().unwrap()) as u64;
-        let high = u32::from_le_bytes(bytes[n - 4..].try_into().unwrap()) as u64;
-        return low | high << (8 * (n & 3));
-    }
-    bytes.iter().rev().fold(0, |w, &b| w << 8 | b as u64)
+#[inline(always)]
+pub fn put(bytes: &mut [u8], value: u32) {
+    bytes.copy_from_slice(&value.to_le_bytes());
 }
 
-/// The low bytes of a word, fewer than eight.
+/// The last bytes of a row, fewer than four.
 #[inline]
-fn put_part(bytes: &mut [u8], w: u64) {
-    let n = bytes.len();
-    if n >= 4 {
-        bytes[..4].copy_from_slice(&(w as u32).to_le_bytes());
-        bytes[n - 4..].copy_from_slice(&((w >> (8 * (n & 3))) as u32).to_le_bytes());
-        return;
+fn change_last(row: &mut [u8], f: Flat) {
+    for (i, to) in row.iter_mut().enumerate().take(3) {
+        *to = (f.apply((*to as u32) << (8 * i)) >> (8 * i)) as u8;
     }
-    bytes.iter_mut().zip(w.to_le_bytes()).for_each(|(to, b)| *to = b);
+}
+
+#[inline]
+fn fill_last(row: &mut [u8], value: u32) {
+    row.iter_mut().zip(value.to_le_bytes()).take(3).for_each(|(to, byte)| *to = byte);
 }
 
 // ---- rows
 
 /// Stores one value at each pixel.
 #[inline]
-pub fn fill(row: &mut [u8], depth: usize, value: u64) {
-    if depth == 1 {
+pub fn fill(row: &mut [u8], depth: usize, value: u32) {
+    if depth == 1 && row.len() >= 512 {
         row.fill(value as u8);
         return;
     }
-    let mut blocks = row.chunks_exact_mut(64);
-    for block in &mut blocks {
-        block.chunks_exact_mut(8).for_each(|w| w.copy_from_slice(&value.to_le_bytes()));
-    }
-    let mut words = blocks.into_remainder().chunks_exact_mut(8);
-    (&mut words).for_each(|w| w.copy_from_slice(&value.to_le_bytes()));
-    put_part(words.into_remainder(), value);
+    let mut words = row.chunks_exact_mut(4);
+    (&mut words).for_each(|w| put(w, value));
+    fill_last(words.into_remainder(), value);
 }
 
 /// Stores a tile again and again.
@@ -202,54 +288,34 @@ pub fn fill(row: &mut [u8], depth: usize, value: u64) {
 pub fn fill_tile(row: &mut [u8], tile: &Tile) {
     let mut tiles = row.chunks_exact_mut(32);
     for t in &mut tiles {
-        t.chunks_exact_mut(8).zip(tile).for_each(|(w, v)| w.copy_from_slice(&v.to_le_bytes()));
+        (0..8).for_each(|i| put(&mut t[4 * i..4 * i + 4], tile[i]));
     }
     let rest = tiles.into_remainder();
-    let last = tile[rest.len() / 8 % 4];
-    let mut words = rest.chunks_exact_mut(8);
-    (&mut words).zip(tile).for_each(|(w, v)| w.copy_from_slice(&v.to_le_bytes()));
-    put_part(words.into_remainder(), last);
+    let last = tile[rest.len() / 4 % 8];
+    let mut words = rest.chunks_exact_mut(4);
+    (0..8).zip(&mut words).for_each(|(i, w)| put(w, tile[i]));
+    fill_last(words.into_remainder(), last);
 }
 
 /// Changes each pixel by one operation without a source.
 #[inline]
 pub fn change(row: &mut [u8], f: Flat) {
-    let mut words = row.chunks_exact_mut(8);
-    for w in &mut words {
-        w.copy_from_slice(&f.apply(word(w)).to_le_bytes());
-    }
-    let rest = words.into_remainder();
-    put_part(rest, f.apply(part(rest)));
+    let mut words = row.chunks_exact_mut(4);
+    (&mut words).for_each(|w| put(w, f.apply(get(w))));
+    change_last(words.into_remainder(), f);
 }
 
 /// The same by a tile of them.
 #[inline]
 pub fn change_tile(row: &mut [u8], tile: &FlatTile) {
-    let one = |i: usize, w: &mut [u8]| w.copy_from_slice(&((word(w) & tile.and[i]) ^ tile.xor[i]).to_le_bytes());
+    let one = |i: usize, w: &mut [u8]| put(w, tile.word(i).apply(get(w)));
     let mut tiles = row.chunks_exact_mut(32);
     for t in &mut tiles {
-        (0..4).for_each(|i| one(i, &mut t[8 * i..8 * i + 8]));
+        (0..8).for_each(|i| one(i, &mut t[4 * i..4 * i + 4]));
     }
     let rest = tiles.into_remainder();
-    let last = rest.len() / 8 % 4;
-    let mut words = rest.chunks_exact_mut(8);
-    (0..4).zip(&mut words).for_each(|(i, w)| one(i, w));
-    let rest = words.into_remainder();
-    put_part(rest, (part(rest) & tile.and[last]) ^ tile.xor[last]);
-}
-
-/// Combines each pixel with one of a source row of the same length.
-#[inline]
-pub fn combine(row: &mut [u8], source: &[u8], tile: &RopTile) {
-    let one = |i: usize, w: &mut [u8], s: &[u8]| w.copy_from_slice(&tile.word(i).apply(word(s), word(w)).to_le_bytes());
-    let (mut tiles, mut sources) = (row.chunks_exact_mut(32), source.chunks_exact(32));
-    for (t, s) in (&mut tiles).zip(&mut sources) {
-        (0..4).for_each(|i| one(i, &mut t[8 * i..8 * i + 8], &s[8 * i..8 * i + 8]));
-    }
-    let (rest, from) = (tiles.into_remainder(), sources.remainder());
-    let last = tile.word(rest.len() / 8 % 4);
-    let (mut words, mut sources) = (rest.chunks_exact_mut(8), from.chunks_exact(8));
-    (0..4).zip((&mut words).zip(&mut sources)).for_each(|(i, (w, s))| one(i, w, s));
-    let (rest, from) = (words.into_remainder(), sources.remainder());
-    put_part(rest, last.apply(part(from), part(rest)));
+    let last = tile.word(rest.len() / 4 % 8);
+    let mut words = rest.chunks_exact_mut(4);
+    (0..8).zip(&mut words).for_each(|(i, w)| one(i, w));
+    change_last(words.into_remainder(), last);
 }

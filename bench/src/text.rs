@@ -1,8 +1,7 @@
 //! Mono sources: rows of bits, expanded to pixels eight at a time.
 
 use crate::blt::{Blt, Rows};
-use crate::raster::{Flat, FlatTile};
-use std::slice::Iter;
+use crate::raster::{get, put, Flat, FlatTile, MASKS_1, MASKS_2, MASKS_4};
 
 /// A mono source: its rows of bits, the bytes of each, and how many bits of a row's first byte are skipped.
 #[derive(Clone, Copy)]
@@ -12,133 +11,137 @@ pub struct Font {
     pub skip: u32,
 }
 
-/// What a row gets where its bit is clear, and where it is set. Neither has a source any more.
+/// What a pixel gets where its bit is clear, and where it is set.
 #[derive(Clone, Copy)]
 pub struct Inks {
     pub clear: Flat,
     pub set: Flat,
 }
 
-/// The bits of a row, eight at a time, the highest first.
-struct Bits<'a> {
-    bytes: Iter<'a, u8>,
-    held: u32,
-    shift: u32,
+/// Two values, one for clear bits and one for set ones: `clear ^ (mask & differ)`.
+#[derive(Clone, Copy)]
+struct Choice {
+    clear: u32,
+    differ: u32,
 }
 
-impl<'a> Bits<'a> {
-    /// Without the first `skip` bits.
-    #[inline]
-    fn new(bytes: &'a [u8], skip: u32) -> Bits<'a> {
-        let mut bytes = bytes.iter();
-        let held = bytes.next().map_or(0, |&b| b as u32);
-        Bits { bytes, held, shift: 8 - skip }
+impl Choice {
+    fn new(clear: u32, set: u32) -> Choice {
+        Choice { clear, differ: clear ^ set }
     }
 
-    #[inline]
-    fn next(&mut self) -> u8 {
-        self.held = self.held << 8 | self.bytes.next().map_or(0, |&b| b as u32);
-        (self.held >> self.shift) as u8
+    #[inline(always)]
+    fn by(self, mask: u32) -> u32 {
+        self.clear ^ (mask & self.differ)
     }
 }
 
-/// A pixel as a number.
-trait Pixel: Copy {
-    const BYTES: usize;
-    fn get(bytes: &[u8]) -> Self;
-    fn put(self, bytes: &mut [u8]);
-    fn low(value: u64) -> Self;
-    /// The one where the bit is clear, or the other.
-    fn chosen(set: bool, clear: Self, other: Self) -> Self;
-    fn changed(self, and: Self, xor: Self) -> Self;
+/// What pixels get by their bits; with STORES nothing looks at what stands there. Eight pixels are W words.
+#[derive(Clone, Copy)]
+struct Painter<const W: usize, const STORES: bool> {
+    masks: &'static [[u32; W]; 256],
+    and: Choice,
+    xor: Choice,
 }
 
-macro_rules! pixel {
-    ($t:ty) => {
-        impl Pixel for $t {
-            const BYTES: usize = size_of::<$t>();
-            #[inline(always)]
-            fn get(bytes: &[u8]) -> $t {
-                <$t>::from_le_bytes(bytes.try_into().unwrap())
-            }
-            #[inline(always)]
-            fn put(self, bytes: &mut [u8]) {
-                bytes.copy_from_slice(&self.to_le_bytes());
-            }
-            #[inline(always)]
-            fn low(value: u64) -> $t {
-                value as $t
-            }
-            #[inline(always)]
-            fn chosen(set: bool, clear: $t, other: $t) -> $t {
-                if set {
-                    other
-                } else {
-                    clear
-                }
-            }
-            #[inline(always)]
-            fn changed(self, and: $t, xor: $t) -> $t {
-                (self & and) ^ xor
-            }
+impl<const W: usize, const STORES: bool> Painter<W, STORES> {
+    #[inline(always)]
+    fn one(self, there: u32, mask: u32) -> u32 {
+        if STORES {
+            self.xor.by(mask)
+        } else {
+            (there & self.and.by(mask)) ^ self.xor.by(mask)
         }
-    };
-}
+    }
 
-pixel!(u8);
-pixel!(u16);
-pixel!(u32);
+    /// Eight pixels: all are read before one is written.
+    #[inline(always)]
+    fn eight(self, block: &mut [u8], bits: u8) {
+        let masks = self.masks[bits as usize];
+        let mut words = [0; W];
+        for i in 0..W {
+            words[i] = self.one(get(&block[4 * i..4 * i + 4]), masks[i]);
+        }
+        for i in 0..W {
+            put(&mut block[4 * i..4 * i + 4], words[i]);
+        }
+    }
 
-/// One row; with STORES no ink looks at what stands there.
-#[inline]
-fn pixels<P: Pixel, const STORES: bool>(row: &mut [u8], mut bits: Bits, inks: Inks) {
-    let (clear_and, clear_xor) = (P::low(inks.clear.and), P::low(inks.clear.xor));
-    let (set_and, set_xor) = (P::low(inks.set.and), P::low(inks.set.xor));
-    let paint = |block: &mut [u8], eight: u8| {
-        for (k, p) in block.chunks_exact_mut(P::BYTES).enumerate() {
-            let set = eight & (0x80 >> k) != 0;
-            let xor = P::chosen(set, clear_xor, set_xor);
-            if STORES {
-                xor.put(p);
+    /// Fewer than eight.
+    #[inline(always)]
+    fn last(self, block: &mut [u8], bits: u8) {
+        let masks = &self.masks[bits as usize];
+        let mask = masks[block.len() / 4 % W];
+        let mut words = block.chunks_exact_mut(4);
+        (&mut words).zip(masks).for_each(|(w, &mask)| put(w, self.one(get(w), mask)));
+        for (i, to) in words.into_remainder().iter_mut().enumerate().take(3) {
+            *to = (self.one((*to as u32) << (8 * i), mask) >> (8 * i)) as u8;
+        }
+    }
+
+    /// One row, by the bits of these bytes without the first `skip`.
+    #[inline(never)]
+    fn row(self, row: &mut [u8], bytes: &[u8], skip: u32) {
+        let joined = |high: u8, low: u8| ((high as u32) << skip | low as u32 >> (8 - skip)) as u8;
+        let full = row.len() / (4 * W);
+        let mut blocks = row.chunks_exact_mut(4 * W);
+        if skip == 0 {
+            (&mut blocks).zip(bytes).for_each(|(block, &byte)| self.eight(block, byte));
+        } else {
+            (&mut blocks).zip(bytes.windows(2)).for_each(|(block, two)| self.eight(block, joined(two[0], two[1])));
+        }
+        if let [byte, next @ ..] = &bytes[full..] {
+            self.last(blocks.into_remainder(), joined(*byte, next.first().copied().unwrap_or(0)));
+        }
+    }
+
+    fn rows(self, frame: &mut [u8], b: &Blt, font: Font, inks: Inks) {
+        let n = b.width * W / 2;
+        for j in 0..b.height {
+            let (from, to) = (font.rows.at(j), b.to.at(j));
+            if from + font.bytes <= to {
+                let (low, high) = frame.split_at_mut(to);
+                self.row(&mut high[..n], &low[from..from + font.bytes], font.skip);
+            } else if to + n <= from {
+                let (low, high) = frame.split_at_mut(from);
+                self.row(&mut low[to..to + n], &high[..font.bytes], font.skip);
             } else {
-                P::get(p).changed(P::chosen(set, clear_and, set_and), xor).put(p);
+                draw_in_order(frame, b, font, j, &FlatTile::solid(inks.clear), &FlatTile::solid(inks.set));
             }
         }
-    };
-    let mut blocks = row.chunks_exact_mut(8 * P::BYTES);
-    for block in &mut blocks {
-        paint(block, bits.next());
-    }
-    let rest = blocks.into_remainder();
-    if !rest.is_empty() {
-        paint(rest, bits.next());
     }
 }
 
-/// Expands the bits of one row, the first `skip` left out.
-#[inline]
-pub fn expand(row: &mut [u8], depth: usize, bytes: &[u8], skip: u32, inks: Inks) {
-    let bits = Bits::new(bytes, skip);
-    match (depth, inks.clear.and | inks.set.and == 0) {
-        (1, true) => pixels::<u8, true>(row, bits, inks),
-        (1, false) => pixels::<u8, false>(row, bits, inks),
-        (2, true) => pixels::<u16, true>(row, bits, inks),
-        (2, false) => pixels::<u16, false>(row, bits, inks),
-        (_, true) => pixels::<u32, true>(row, bits, inks),
-        (_, false) => pixels::<u32, false>(row, bits, inks),
+fn draw_by<const W: usize>(masks: &'static [[u32; W]; 256], frame: &mut [u8], b: &Blt, font: Font, inks: Inks) {
+    let (clear, set) = (inks.clear, inks.set);
+    let (and, xor) = (Choice::new(clear.and, set.and), Choice::new(clear.xor, set.xor));
+    if clear.and | set.and == 0 {
+        Painter::<W, true> { masks, and, xor }.rows(frame, b, font, inks);
+    } else {
+        Painter::<W, false> { masks, and, xor }.rows(frame, b, font, inks);
     }
 }
 
-/// The same pixel by pixel, each bit read as memory then stands, with the operations of eight pixels that differ.
-pub fn expand_in_order(frame: &mut [u8], b: &Blt, to: usize, from: usize, skip: u32, clear: &FlatTile, set: &FlatTile) {
+/// All rows, with a solid pattern.
+pub fn draw(frame: &mut [u8], b: &Blt, font: Font, inks: Inks) {
+    match b.depth {
+        1 => draw_by(&MASKS_1, frame, b, font, inks),
+        2 => draw_by(&MASKS_2, frame, b, font, inks),
+        _ => draw_by(&MASKS_4, frame, b, font, inks),
+    }
+}
+
+/// Row j pixel by pixel, each bit read as memory then stands, with the operations of eight pixels that differ.
+pub fn draw_in_order(frame: &mut [u8], b: &Blt, font: Font, j: usize, clear: &FlatTile, set: &FlatTile) {
+    let (from, to) = (font.rows.at(j), b.to.at(j));
     for i in 0..b.width {
-        let bit = skip as usize + i;
+        let bit = font.skip as usize + i;
         let is_set = frame[from + bit / 8] >> (7 - bit % 8) & 1 != 0;
         let ink = if is_set { set.at(i * b.depth) } else { clear.at(i * b.depth) };
         let pixel = &mut frame[to + i * b.depth..][..b.depth];
-        let mut there = [0; 8];
+        let mut there = [0; 4];
         there[..b.depth].copy_from_slice(pixel);
-        let value = ink.apply(u64::from_le_bytes(there));
+        let value = ink.apply(u32::from_le_bytes(there));
         pixel.copy_from_slice(&value.to_le_bytes()[..b.depth]);
     }
 }

@@ -2,7 +2,7 @@
 
 use crate::engine::{bad_both, depth_of, Registers};
 use crate::engine::{DST_OFFSET, PAT_COLOR_0, RASTER_MODE, SRC_COLOR_FG, SRC_OFFSET, STRIDE, VECTOR_MODE, WID_HEIGHT};
-use crate::raster::Rop;
+use crate::raster::Flat;
 
 pub struct Vector {
     depth: usize,
@@ -14,8 +14,7 @@ pub struct Vector {
     axial: i32,
     diagonal: i32,
     error: i32,
-    and: u32,
-    xor: u32,
+    op: Flat,
 }
 
 impl Vector {
@@ -36,7 +35,7 @@ impl Vector {
         let mode = r[VECTOR_MODE];
         let (x, y) = (depth as i64, (r[STRIDE] & 0xFFFF) as i64);
         let (major, minor) = if mode & 1 != 0 { (y, x) } else { (x, y) };
-        let op = Rop::of(r[RASTER_MODE], r[PAT_COLOR_0] as u64).flat(r[SRC_COLOR_FG] as u64);
+        let op = Flat::of(r[RASTER_MODE], r[PAT_COLOR_0], r[SRC_COLOR_FG]);
         let v = Vector {
             depth,
             length,
@@ -46,8 +45,7 @@ impl Vector {
             axial,
             diagonal,
             error: r[WID_HEIGHT] as i16 as i32,
-            and: op.and as u32,
-            xor: op.xor as u32,
+            op,
         };
         if v.lies_in(frame) {
             Ok(v)
@@ -111,10 +109,10 @@ pub fn draw(frame: &mut [u8], v: &Vector) {
 }
 
 fn pixels<const DEPTH: usize>(frame: &mut [u8], v: &Vector) {
-    if v.and == 0 {
-        walk::<DEPTH>(frame, v, |p| put(p, v.xor));
+    if v.op.and == 0 {
+        walk::<DEPTH>(frame, v, |p| put(p, v.op.xor));
     } else {
-        walk::<DEPTH>(frame, v, |p| put(p, (get(p) & v.and) ^ v.xor));
+        walk::<DEPTH>(frame, v, |p| put(p, v.op.apply(get(p))));
     }
 }
 

@@ -19,8 +19,8 @@ pub struct Case {
     /// Commands, and pixels of all of them.
     pub commands: usize,
     pub pixels: usize,
-    /// Whether frame memory begins as zeros, as a recording's does.
-    pub zeros: bool,
+    /// Whether it is not known before how much of it is drawn: a recording, or random commands.
+    pub mixed: bool,
 }
 
 /// A small generator of random numbers, the same in every run.
@@ -42,6 +42,19 @@ impl Random {
     pub fn below(&mut self, n: usize) -> usize {
         self.next() as usize % n
     }
+}
+
+/// Frame memory to begin with: bits in runs, as those of letters are, about three to a run.
+pub fn start(length: usize) -> Vec<u8> {
+    let mut random = Random::new(1);
+    let mut bit = 0;
+    let mut byte = || {
+        (0..8).fold(0, |byte: u8, _| {
+            bit ^= (random.next() % 3 == 0) as u8;
+            byte << 1 | bit
+        })
+    };
+    (0..length).map(|_| byte()).collect()
 }
 
 /// Where a copy's source lies.
@@ -160,7 +173,7 @@ fn rectangles(kind: &Kind, source: Source, depth: usize, (width, height, count):
         frame: 2 * HIGH * WIDE * depth,
         commands: count,
         pixels: count * width * height,
-        zeros: false,
+        mixed: false,
     }
 }
 
@@ -231,7 +244,7 @@ fn lines(kind: &Kind, depth: usize, length: usize, count: usize) -> Case {
         frame: 2 * HIGH * WIDE * depth,
         commands: count,
         pixels: count * length,
-        zeros: false,
+        mixed: false,
     }
 }
 
@@ -289,7 +302,7 @@ pub fn recordings(folder: &Path, word: &str) -> Vec<Case> {
                 ring: words[4..].to_vec(),
                 commands: 1,
                 pixels: 0,
-                zeros: true,
+                mixed: true,
             });
         }
     }

@@ -1,0 +1,120 @@
+//! Random commands, for the comparison alone: they are not timed.
+
+use crate::workloads::{Case, Random};
+
+/// Rings of random commands of all kinds, most of them good, over a small frame memory.
+pub fn all(word: &str) -> Vec<Case> {
+    let count = if "random".contains(word) { 3000 } else { 0 };
+    (0..count).map(mixed_ring).collect()
+}
+
+fn mixed_ring(seed: u64) -> Case {
+    let mut random = Random::new(1000 + seed);
+    let length = 64 + random.below(1000);
+    let mut ring: Vec<u32> = Vec::new();
+    while ring.len() < length {
+        if random.below(4) == 0 {
+            ring.extend(mixed_vector(&mut random));
+        } else {
+            ring.extend(mixed_blt(&mut random));
+        }
+    }
+    ring.truncate(length);
+    Case {
+        kind: format!("random {seed}"),
+        bits: 0,
+        size: String::new(),
+        write: length - 1 - random.below(20),
+        ring,
+        frame: 20_000 + random.below(12_768),
+        commands: 1,
+        pixels: 0,
+        mixed: true,
+    }
+}
+
+/// One of the numbers, the first being the likeliest.
+fn one_of<const N: usize>(numbers: [u32; N], random: &mut Random) -> u32 {
+    let first = random.below(2) == 0;
+    numbers[if first { 0 } else { random.below(N) }]
+}
+
+/// A number from 1 up to another, or rarely 0.
+fn size(most: u32, random: &mut Random) -> u32 {
+    if random.below(200) == 0 {
+        0
+    } else {
+        1 + random.next() % most
+    }
+}
+
+/// A header with all words enabled, or some but the mode; sometimes bad.
+fn mixed_header(random: &mut Random, kind: u32, words: u32) -> u32 {
+    let all = (1 << words) - 1;
+    let stall = (random.below(4) == 0) as u32;
+    let some = if random.below(6) == 0 { random.next() & all | 1 << (words - 1) } else { all };
+    let last = if random.below(20) == 0 { some & all >> 1 } else { some };
+    let bad = if random.below(200) == 0 { 1 << random.below(32) } else { 0 };
+    kind << 29 | stall << 28 | last | bad
+}
+
+/// RASTER_MODE: a format, a code, and some of these bits.
+fn mixed_raster(random: &mut Random, bits: u32) -> u32 {
+    let format = [0, 4, 5, 6, 8, 8][random.below(6)] << 28;
+    let code = [0xCC, 0xF0, 0x5A, random.next() & 0xFF][random.below(4)];
+    let faults = if random.below(100) == 0 { 1 << (12 + random.below(20)) } else { 0 };
+    format ^ faults | random.next() & bits | code
+}
+
+fn mixed_blt(random: &mut Random) -> [u32; 17] {
+    let (x, y) = (random.next() & 0x200, random.next() & 0x100);
+    let mono = random.below(3) == 0;
+    let source = if mono { one_of([0x81, 0x41, 0x01, 0x80], random) } else { one_of([0x01, 0x00, 0x01], random) };
+    let back = if source & 0xC0 != 0 && random.below(50) != 0 { 0 } else { x | y };
+    let to = 8000 + random.next() % 5000;
+    let near = to + random.next() % 400 - 200;
+    let from = one_of([near, near, near, 6000 + random.next() % 12_000], random);
+    let stride = one_of([200, 0, random.next() % 300], random);
+    [
+        mixed_header(random, 0, 16),
+        mixed_raster(random, if source & 0xC0 != 0 { 0x2D00 } else { 0x0500 }),
+        random.next() & 0xFC00_0000 | to,
+        random.next() & 0xFC00_0000 | from,
+        one_of([stride, random.next() % 300], random) << 16 | stride,
+        size(60, random) << 16 | size(20, random) | random.next() & 0xF000_F000,
+        random.next(),
+        random.next(),
+        random.next(),
+        random.next(),
+        random.next(),
+        random.next(),
+        random.next(),
+        random.next() >> (random.below(200) != 0) as u32,
+        random.next(),
+        (random.below(200) == 0) as u32,
+        back | source,
+    ]
+}
+
+fn mixed_vector(random: &mut Random) -> [u32; 14] {
+    let term = |random: &mut Random| random.next() % 200;
+    let axial = term(random);
+    let diagonal = term(random).wrapping_neg();
+    let error = term(random).wrapping_sub(100);
+    [
+        mixed_header(random, 1, 13),
+        mixed_raster(random, 0x0400),
+        one_of([10_000, 2000], random) + random.next() % 5000,
+        axial << 16 | diagonal & 0xFFFF,
+        random.next() % 300,
+        size(40, random) << 16 | error & 0xFFFF,
+        random.next(),
+        random.next(),
+        random.next(),
+        random.next(),
+        random.next(),
+        random.next() >> 1,
+        (random.below(200) == 0) as u32,
+        random.next(),
+    ]
+}
