@@ -128,7 +128,7 @@ fn draw_solid(frame: &mut [u8], b: &Blt, r: &Registers) {
         Source::Frame(from) if raster::reads_source(code) => {
             let rop = Rop::of(code, pattern);
             combine(frame, b, from, |_| rop)
-        },
+        }
         _ => change(frame, b, Flat::of(code, pattern, raster::repeated(b.depth, r[SRC_COLOR_FG]))),
     }
 }
