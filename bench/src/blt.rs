@@ -136,9 +136,22 @@ fn draw_solid(frame: &mut [u8], b: &Blt, r: &Registers) {
 /// One colour everywhere.
 fn fill(frame: &mut [u8], b: &Blt, value: u32) {
     let n = b.width * b.depth;
+    if n >= 1024 && b.depth > 1 && b.to.step.unsigned_abs() >= n {
+        return fill_long(frame, b, value);
+    }
     for j in 0..b.height {
         let at = b.to.at(j);
         raster::fill(&mut frame[at..at + n], b.depth, value);
+    }
+}
+
+/// Long rows that lie apart: copies of the first, since a copy is faster than a fill of two or four bytes.
+#[inline(never)]
+fn fill_long(frame: &mut [u8], b: &Blt, value: u32) {
+    let first = b.to.at(0)..b.to.at(0) + b.width * b.depth;
+    raster::fill(&mut frame[first.clone()], b.depth, value);
+    for j in 1..b.height {
+        frame.copy_within(first.clone(), b.to.at(j));
     }
 }
 

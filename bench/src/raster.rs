@@ -274,7 +274,7 @@ fn fill_last(row: &mut [u8], value: u32) {
 /// Stores one value at each pixel.
 #[inline]
 pub fn fill(row: &mut [u8], depth: usize, value: u32) {
-    if depth == 1 && row.len() >= 512 {
+    if depth == 1 && row.len() >= 256 {
         row.fill(value as u8);
         return;
     }
