@@ -86,8 +86,20 @@ impl Memory {
 
 fn main() -> ExitCode {
     let arguments: Vec<String> = std::env::args().skip(1).collect();
-    let has = |option: &str| arguments.iter().any(|a| a == option);
-    let word = arguments.iter().find(|a| !a.starts_with("--")).map_or("", |a| a);
+    let (option, word) = match arguments.iter().map(String::as_str).collect::<Vec<_>>()[..] {
+        [] => ("", ""),
+        [option @ ("--compare" | "--best")] => (option, ""),
+        [option @ ("--compare" | "--best"), word] => (option, word),
+        [word] if !word.starts_with('-') => ("", word),
+        _ => {
+            println!("usage: bench [--compare | --best] [WORD]");
+            return ExitCode::FAILURE;
+        }
+    };
+    run(option, word)
+}
+
+fn run(option: &str, word: &str) -> ExitCode {
     let mut cases = workloads::all(word);
     cases.extend(workloads::recordings(Path::new("recordings"), word));
     let longest = cases.iter().map(|c| c.frame).max().unwrap_or(0).max(1 << 16);
@@ -100,8 +112,12 @@ fn main() -> ExitCode {
             return ExitCode::FAILURE;
         }
     }
-    if !has("--compare") {
-        measure(&cases, &start, &mut memories, if has("--best") { 0 } else { TURNS / 2 });
+    if cases.len() + mixed.len() == 0 {
+        println!("bench: no kind has {word} in its name");
+        return ExitCode::FAILURE;
+    }
+    if option != "--compare" {
+        measure(&cases, &start, &mut memories, if option == "--best" { 0 } else { TURNS / 2 });
     }
     println!("bench: {} rings drawn, frame memory the same", cases.len() + mixed.len());
     ExitCode::SUCCESS

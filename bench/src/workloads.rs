@@ -182,49 +182,44 @@ fn filled(mut ring: Vec<u32>) -> Vec<u32> {
     ring
 }
 
-/// One BLT with all its words enabled, at a place of its own. A source that overlaps lies a quarter of the width away.
+/// One BLT with all its words enabled, at a place of its own.
 fn rectangle(kind: &Kind, source: Source, depth: usize, width: usize, height: usize, random: &mut Random) -> [u32; 17] {
+    let stride = (WIDE * depth) as u32;
+    let [to, from, mode] = places(source, depth, width, height, random);
+    let pattern = random.next() & 0xFC00_0000;
+    let mut words = [0; 17];
+    words[0] = 0x0000_FFFF;
+    words[1] = format(depth) | kind.raster;
+    words[2] = pattern | to;
+    words[3] = from;
+    words[4] = stride << 16 | stride;
+    words[5] = (width << 16 | height) as u32;
+    words[6..12].fill_with(|| random.next());
+    words[16] = mode;
+    words
+}
+
+/// DST_OFFSET, SRC_OFFSET and BLT_MODE. A source that overlaps lies a quarter of the width away; of the fonts one in four begins
+/// within a byte.
+fn places(source: Source, depth: usize, width: usize, height: usize, random: &mut Random) -> [u32; 3] {
     let stride = WIDE * depth;
+    let to = (1 + random.below(HIGH - height - 1)) * stride + random.below(WIDE - width + 1) * depth;
     let away = (width / 4).max(1) * depth;
-    let (x, y) = (random.below(WIDE - width + 1), 1 + random.below(HIGH - height - 1));
-    let to = y * stride + x * depth;
     let last = width * depth - 1;
     let below = HIGH * stride;
+    let row = below + random.below(HIGH - height) * stride;
     let skip = if random.below(4) == 0 { random.below(8) } else { 0 };
     let packed = (skip + width + 7) / 8 * height;
-    let place = random.next();
-    let apart = below + random.below(HIGH - height) * stride + random.below(WIDE - width + 1) * depth;
-    let font = below + random.below(below - packed);
-    let sheet = below + random.below(HIGH - height) * stride + random.below(stride - width / 8);
     let (to, from, mode) = match source {
         Source::None => (to, 0, 0x000),
         Source::Right => (to, to + away, 0x001),
         Source::Left => (to + last, to + last - away, 0x201),
-        Source::Apart => (to, apart, 0x001),
+        Source::Apart => (to, row + random.below(WIDE - width + 1) * depth, 0x001),
         Source::Smear => (to, to - away, 0x001),
-        Source::Packed => (to, font, 0x081),
-        Source::Sheet => (to, sheet, 0x041),
+        Source::Packed => (to, skip << 26 | below + random.below(below - packed), 0x081),
+        Source::Sheet => (to, skip << 26 | row + random.below(stride - width / 8), 0x041),
     };
-    let bits = (skip as u32) << 26;
-    [
-        0x0000_FFFF,
-        format(depth) | kind.raster,
-        place & 0xFC00_0000 | to as u32,
-        bits | from as u32,
-        (stride << 16 | stride) as u32,
-        (width << 16 | height) as u32,
-        random.next(),
-        random.next(),
-        random.next(),
-        random.next(),
-        random.next(),
-        random.next(),
-        0,
-        0,
-        0,
-        0,
-        mode,
-    ]
+    [to as u32, from as u32, mode]
 }
 
 // ---- lines
