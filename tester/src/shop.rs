@@ -1,4 +1,4 @@
-//! Document 01's shop cases and its replay example, and cases of requests W1 and W2, asked of the model. Run by `rustc --test`.
+//! Document 01's shop cases and its replay example, and cases of requests W1 to W3, asked of the model. Run by `rustc --test`.
 
 use crate::model::*;
 use crate::programs::{crc32, replay, trace, Nobody};
@@ -414,6 +414,19 @@ fn vectors_do_not_move() {
                 wanted[(offset - 2 * depth) as usize..(offset + depth) as usize].fill(0xFF);
             }
             assert_eq!(frame, wanted);
+        }
+    }
+}
+
+// ---- W3: whole pixels -----------------------------------------------------------------------------------------------------------
+
+/// Where P, S and D count from 0 to 7, bit by bit, each code gives itself, in every byte of a pixel.
+#[test]
+fn each_code_gives_itself() {
+    for code in 0..=255 {
+        for depth in [1, 2, 4] {
+            let wanted = u32::from_le_bytes([code as u8; 4]) & u32::MAX >> (32 - 8 * depth);
+            assert_eq!(raster_operation(code, 0xF0F0_F0F0, 0xCCCC_CCCC, 0xAAAA_AAAA, 8 * depth), wanted);
         }
     }
 }
