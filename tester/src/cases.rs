@@ -5,6 +5,7 @@ use crate::model::{
     BASE_OFFSET, BLT_MODE, CH3_MODE_STR, CH3_OFFSET, CH3_WIDHI, DST_OFFSET, PAT_COLOR_0, PAT_COLOR_1, PAT_DATA_0, PAT_DATA_1,
     RASTER_MODE, SRC_COLOR_BG, SRC_COLOR_FG, SRC_OFFSET, STRIDE, VECTOR_MODE, VEC_ERR, VEC_LEN, WID_HEIGHT,
 };
+use crate::short_ways::{self, PLAIN, ROW_LENGTHS, WAYS};
 use std::collections::VecDeque;
 
 // ---- Random numbers -------------------------------------------------------------------------------------------------------------
@@ -55,6 +56,15 @@ impl Rng {
             0 => 0,
             1 => u32::MAX,
             _ => self.bits(),
+        }
+    }
+
+    /// A colour: mostly random, so that all bits of a raster code come up.
+    fn colour(&mut self) -> u32 {
+        if self.chance(1, 4) {
+            self.stale()
+        } else {
+            self.bits()
         }
     }
 
@@ -129,6 +139,26 @@ fn settle(rng: &mut Rng, kind: Kind, registers: &mut Registers, frame_len: i64, 
     true
 }
 
+/// Moves source and destination of a BLT to lie in the frame, the source this many bytes behind the destination. False if they do not fit.
+fn settle_both(rng: &mut Rng, r: &mut Registers, frame_len: i64, apart: i64) -> bool {
+    set_offset(r, DST_OFFSET, 0);
+    set_offset(r, SRC_OFFSET, 0);
+    let ((low, high), (first, last)) = (span(Kind::Blt, r, false), span(Kind::Blt, r, true));
+    let least = (-low).max(-first - apart);
+    let most = (frame_len - 1 - high).min(frame_len - 1 - last - apart);
+    if least > most {
+        return false;
+    }
+    let offset = match rng.below(5) {
+        0 => least,
+        1 => most,
+        _ => rng.between(least, most),
+    };
+    set_offset(r, DST_OFFSET, offset);
+    set_offset(r, SRC_OFFSET, offset + apart);
+    true
+}
+
 // ---- Commands -------------------------------------------------------------------------------------------------------------------
 
 const CODES: [u32; 14] = [0x00, 0xFF, 0xF0, 0xCC, 0xAA, 0x5A, 0x66, 0x88, 0xEE, 0x0F, 0x33, 0x55, 0xE2, 0xB8];
@@ -141,7 +171,7 @@ fn raster_mode(rng: &mut Rng, kind: Kind, frame_len: i64) -> u32 {
     };
     let mono = kind == Kind::Blt && rng.chance(2, 5);
     let transparent = rng.chance(if mono { 3 } else { 1 }, 6);
-    let code = if rng.chance(2, 3) { rng.bits() & 0xFF } else { rng.pick(&CODES) };
+    let code = if rng.chance(5, 6) { rng.bits() & 0xFF } else { rng.pick(&CODES) };
     // OS, AS, CS and the reserved bits have no effect while alpha is off
     format << 28 | rng.idle(0x0F3F_C000) | u32::from(transparent) << 10 | u32::from(mono) << 8 | code
 }
@@ -203,7 +233,7 @@ fn wish_blt(rng: &mut Rng, registers: &Registers, frame_len: i64, most: i64) -> 
     if source_mode != 0 {
         r[RASTER_MODE] |= rng.bits() & (SI | ST);
     }
-    if selected && rng.chance(1, 3) {
+    if selected && rng.chance(1, 6) {
         let code = if mono { rng.pick(&[0xCC, 0xCC, 0xF0, 0x5A]) } else { 0xCC }; // a plain copy
         r[RASTER_MODE] = r[RASTER_MODE] & !0xFF | code;
     }
@@ -246,14 +276,14 @@ fn wish_blt(rng: &mut Rng, registers: &Registers, frame_len: i64, most: i64) -> 
     r[WID_HEIGHT] = rng.idle(0xF000_F000) | (width as u32) << 16 | height as u32;
     r[DST_OFFSET] = rng.bits() & 0xFC00_0000 | rng.idle(0x0300_0000);
     if rng.chance(3, 4) {
-        r[SRC_COLOR_FG] = rng.stale();
+        r[SRC_COLOR_FG] = rng.colour();
     }
     if mono && rng.chance(3, 4) {
-        r[SRC_COLOR_BG] = rng.stale();
+        r[SRC_COLOR_BG] = rng.colour();
     }
     if rng.chance(3, 4) {
-        r[PAT_COLOR_0] = rng.stale();
-        r[PAT_COLOR_1] = rng.stale();
+        r[PAT_COLOR_0] = rng.colour();
+        r[PAT_COLOR_1] = rng.colour();
     }
     if rng.chance(3, 4) {
         r[PAT_DATA_0] = rng.stale();
@@ -261,6 +291,97 @@ fn wish_blt(rng: &mut Rng, registers: &Registers, frame_len: i64, most: i64) -> 
     }
     idle_registers(rng, &mut r);
     r
+}
+
+/// A BLT on which a wrong short way would show: mostly a plain code or one beside it, with rows about as long as blocks of bytes, and a
+/// source that the BLT overtakes, or just does not.
+fn wish_short_way(rng: &mut Rng, registers: &Registers, frame_len: i64, most: i64) -> Registers {
+    let mut r = wish_blt(rng, registers, frame_len, most);
+    if frame_len >= 64 {
+        r[RASTER_MODE] = r[RASTER_MODE] & 0x0FFF_FFFF | rng.pick(&[0, 0, 0, 4, 5, 6, 8, 8, 8]) << 28;
+    }
+    let depth = model::bytes_per_pixel(&r).unwrap_or(1);
+    let any_code = rng.bits() & 0xFF;
+    let plain = rng.pick(&PLAIN);
+    let (code, source) = match rng.below(20) {
+        0..=4 => (0xCC, 1),
+        5..=8 => (rng.pick(&[0x66, 0xEE, 0x88, 0x33, 0xE2, any_code]), 1),
+        9..=11 => (0xF0, rng.below(2)),
+        12..=14 => (0x5A, rng.below(2)),
+        15 => (0xCC, 0),
+        16 => (plain ^ 1 << rng.below(8), rng.below(3)),
+        _ => (rng.pick(&[0xCC, 0xF0, 0xF0, 0x5A, 0x5A, any_code]), 2),
+    };
+    r[RASTER_MODE] = r[RASTER_MODE] & !(0xFF | SI | ST) | code;
+    if rng.chance(1, 3) {
+        r[RASTER_MODE] &= !0x300; // a solid pattern
+    }
+    // none, with any mode, or a colour source, or a mono one
+    let source_mode = match source {
+        0 => rng.pick(&[0, 1, 2]),
+        1 => 0,
+        _ => rng.pick(&[1, 1, 2]),
+    };
+    if source_mode != 0 {
+        r[RASTER_MODE] |= rng.bits() & (SI | ST);
+        r[SRC_OFFSET] = r[SRC_OFFSET] & !XLSBS | (rng.bits() & XLSBS);
+    }
+    r[BLT_MODE] = r[BLT_MODE] & !(X_NEGATIVE | Y_NEGATIVE | 0xC3) | source_mode << 6 | u32::from(source > 0);
+    r[BLT_MODE] |= rng.bits() & directions(&r);
+
+    // rows
+    let bytes = if rng.chance(1, 2) { rng.between(66, 140) } else { rng.pick(&ROW_LENGTHS) };
+    let width = ((bytes + depth - 1) / depth).min(frame_len / depth).max(1);
+    let row = width * depth;
+    let source_row = if source == 2 { (model::source_xlsbs(&r) + width + 7) / 8 } else { row };
+    let to = match rng.below(6) {
+        0 => rng.between(0, row),
+        1 | 2 => row,
+        _ => row + rng.between(1, 12),
+    };
+    let from = if rng.chance(5, 6) { to } else { rng.between(0, source_row + 12) };
+    let height = rng.pick(&[1, 1, 2, 3]).min(1 + (frame_len - row) / to.max(from).max(1)).max(1);
+    r[STRIDE] = (from as u32) << 16 | to as u32;
+    r[WID_HEIGHT] = r[WID_HEIGHT] & 0xF000_F000 | (width as u32) << 16 | height as u32;
+
+    // places; where they do not fit, anywhere
+    let apart = if source == 2 { font_place(rng, row, source_row) } else { source_place(rng, row, depth, to) };
+    let placed = source > 0 && settle_both(rng, &mut r, frame_len, apart);
+    if !placed && settle(rng, Kind::Blt, &mut r, frame_len, false) && source > 0 {
+        settle(rng, Kind::Blt, &mut r, frame_len, true);
+    }
+    r
+}
+
+/// How many bytes a font's row lies behind the row that it draws: beside it, inside it, or across an end of it.
+fn font_place(rng: &mut Rng, row: i64, source_row: i64) -> i64 {
+    let part = rng.between(1, (source_row - 1).max(1));
+    match rng.below(6) {
+        0 => -source_row,
+        1 => row,
+        2 => -part,
+        3 => row - part,
+        _ => rng.between(0, (row - source_row).max(0)),
+    }
+}
+
+/// How many bytes a colour source lies behind the destination, either way: part of a row, or some rows, or both.
+fn source_place(rng: &mut Rng, row: i64, depth: i64, stride: i64) -> i64 {
+    let mut step = match rng.below(10) {
+        0 => rng.between(1, depth),
+        1 => row - rng.between(0, depth), // rows that touch, or share a pixel or less
+        2 => rng.between(1, row),
+        3 | 4 => 0,
+        _ => {
+            let (low, high) = rng.pick(&[(1, 15), (16, 31), (32, 63), (64, row), (64, row)]);
+            if low < row { rng.between(low, high.min(row)) } else { rng.between(1, row) }
+        }
+    };
+    if rng.chance(1, 2) {
+        step -= step % depth;
+    }
+    let rows = if step == 0 || rng.chance(1, 5) { rng.pick(&[-2, -1, 1, 2]) } else { 0 };
+    rng.pick(&[-step, step]) + rows * stride
 }
 
 /// Registers that no drawing reads, or of which one bit is judged.
@@ -330,8 +451,8 @@ fn wish_vector(rng: &mut Rng, registers: &Registers, frame_len: i64, most: i64) 
         length = (length * 2 / 3).max(1);
     }
     if rng.chance(3, 4) {
-        r[SRC_COLOR_FG] = rng.stale();
-        r[PAT_COLOR_0] = rng.stale();
+        r[SRC_COLOR_FG] = rng.colour();
+        r[PAT_COLOR_0] = rng.colour();
     }
     for register in [PAT_COLOR_1, PAT_DATA_0, PAT_DATA_1] {
         if rng.chance(1, 3) {
@@ -348,6 +469,12 @@ fn wish_vector(rng: &mut Rng, registers: &Registers, frame_len: i64, most: i64) 
 /// Registers for a command that judging accepts.
 fn wish(rng: &mut Rng, kind: Kind, registers: &Registers, frame_len: u32, most: i64) -> Registers {
     let len = i64::from(frame_len);
+    if kind == Kind::Blt && rng.chance(1, 2) {
+        let r = wish_short_way(rng, registers, len, most);
+        if model::judge(kind, &r, frame_len) == 0 {
+            return r;
+        }
+    }
     for attempt in 0.. {
         let mut r = match kind {
             Kind::Blt => wish_blt(rng, registers, len, most),
@@ -725,12 +852,63 @@ pub fn recording(rng: &mut Rng) -> Vec<u8> {
     let (state, _) = model::setup(ring_len, frame_len);
     let (state, _) = model::publish(state, position);
     let mut frame = vec![0; frame_len as usize];
-    let (_, answer) = model::run(state, &ring, &mut frame, limit, &mut |_, _, _, _| {});
-    let budget = some_budget(rng, answer.units, if answer.word == Word::Spent { limit } else { u32::MAX }, true);
+    let mut cuts = Cuts::new();
+    let (_, answer) = model::run(state, &ring, &mut frame, limit, &mut |_, _, _, after| cuts.see(after));
+    let budget = match cuts.pick(rng) {
+        Some(cut) if rng.chance(1, 2) => cut,
+        _ => some_budget(rng, answer.units, if answer.word == Word::Spent { limit } else { u32::MAX }, true),
+    };
 
     let mut words = vec![ring_len, frame_len, position, budget];
     words.extend(ring);
     bytes_of(&words)
+}
+
+/// The budgets that end a run inside a row of a BLT, by the BLT's way and, within it, by depth and direction of X.
+struct Cuts {
+    units: u32,
+    slot: (usize, usize),
+    found: [[Vec<u32>; 6]; WAYS.len()],
+}
+
+impl Cuts {
+    fn new() -> Cuts {
+        Cuts { units: 0, slot: (0, 0), found: Default::default() }
+    }
+
+    /// After each unit; the first commands, which paint the ground, are left out.
+    fn see(&mut self, after: &State) {
+        self.units += 1;
+        let r = &after.registers;
+        if let Some(place) = after.place.filter(|place| place.kind == Kind::Blt && after.completion >= 2) {
+            if self.units == 1 || place.drawn <= 1 {
+                let depth = model::bytes_per_pixel(r).unwrap_or(1) as usize;
+                self.slot = (short_ways::way(r), 2 * (depth / 2) + usize::from(model::x_negative(r)));
+            }
+            if place.drawn % model::width(r) != 0 {
+                self.found[self.slot.0][self.slot.1].push(self.units);
+            }
+        }
+    }
+
+    /// One of them, or none; ways that are rare are taken more often, and text, which has one direction, less.
+    fn pick(&self, rng: &mut Rng) -> Option<u32> {
+        let all = [
+            "fill", "fill", "fill", "XOR", "XOR", "XOR", "copy", "copy", "other code", "other code", "mono pattern", "mono pattern",
+            "sourceless", "sourceless", "text",
+        ];
+        let sides = |name: &&str| {
+            let way = WAYS.iter().position(|way| way == name).unwrap_or(0);
+            self.found[way].iter().filter(|cuts| !cuts.is_empty()).collect::<Vec<_>>()
+        };
+        let ways: Vec<_> = all.iter().map(sides).filter(|sides| !sides.is_empty()).collect();
+        if ways.is_empty() {
+            return None;
+        }
+        let way = rng.below(ways.len() as u64) as usize;
+        let cuts = rng.pick(&ways[way]);
+        Some(rng.pick(cuts))
+    }
 }
 
 /// 0, 1, exact, one off, small or huge.
@@ -868,8 +1046,12 @@ impl Host<'_> {
 
     fn run_some(&mut self) {
         let mut frame = self.frame.clone();
-        let (_, answer) = model::run(self.state, &self.ring, &mut frame, u32::MAX, &mut |_, _, _, _| {});
-        let budget = some_budget(self.rng, answer.units, u32::MAX, false);
+        let mut cuts = Cuts::new();
+        let (_, answer) = model::run(self.state, &self.ring, &mut frame, u32::MAX, &mut |_, _, _, after| cuts.see(after));
+        let budget = match cuts.pick(self.rng) {
+            Some(cut) if self.rng.chance(1, 4) => cut,
+            _ => some_budget(self.rng, answer.units, u32::MAX, false),
+        };
         self.run(budget);
     }
 

@@ -2,11 +2,15 @@
 
 use crate::cases::span;
 use crate::model::{self, field, Answer, Kind, Registers, SourceMode, State, Word};
-use crate::model::{BASE_OFFSET, BLT_MODE, CH3_MODE_STR, DST_OFFSET, RASTER_MODE, SRC_OFFSET, VECTOR_MODE, WID_HEIGHT};
+use crate::model::{
+    BASE_OFFSET, BLT_MODE, CH3_MODE_STR, DST_OFFSET, PAT_COLOR_0, RASTER_MODE, SRC_COLOR_FG, SRC_OFFSET, VECTOR_MODE, WID_HEIGHT,
+};
 use crate::programs::{Call, Watch};
+use crate::short_ways::{self, MONO_PATTERN, OTHER_CODE, PLAIN, ROW_LENGTHS, TEXT, WAYS};
 use std::collections::BTreeMap;
 
-/// Refusals 3 and 4 are not here: the programs hand on the state that they were given and lend what they set up.
+/// Refusals 3 and 4 are not here: the programs hand on the state that they were given and lend what they set up. What W3 needs at each
+/// depth is in `short_ways`.
 const NEEDED: &[(&str, &[&str])] = &[
     ("refusals", &["1", "2", "5", "6", "7", "21", "22", "23", "24", "25", "26", "27", "28"]),
     (
@@ -116,7 +120,7 @@ const NEEDED: &[(&str, &[&str])] = &[
 ];
 
 pub struct Counts {
-    count: BTreeMap<&'static str, u64>,
+    count: BTreeMap<String, u64>,
     blt_codes: [u64; 256],
     vector_codes: [u64; 256],
     opaque_origins: [u64; 64],
@@ -126,11 +130,22 @@ pub struct Counts {
     /// XLSBS with the width modulo 8, and the widths up to 17, of unpacked and of byte-packed sources
     mono_bits: [[u64; 64]; 2],
     mono_widths: [[u64; 17]; 2],
+    /// by way, rows of each length in the list and longer ones
+    row_lengths: [[u64; ROW_LENGTHS.len() + 1]; WAYS.len()],
+    /// codes that differ in one bit from CCh, F0h and 5Ah, where they draw otherwise
+    neighbours: [u64; 8 * PLAIN.len()],
+    /// by depth, each bit of each code, of BLTs and of vectors
+    blt_bits: [[u64; 2_048]; 3],
+    vector_bits: [[u64; 2_048]; 3],
     pub units: u64,
     /// which kind of command wrote registers 2 and 4 last, in this case
     wrote: [Option<Kind>; 2],
     /// the first word and the length of the command loaded last
     loaded: (u32, u32),
+    /// that command overtakes itself in a row
+    overtakes: bool,
+    /// this case is a recording: frame memory is compared where its run ends
+    recording: bool,
 }
 
 impl Counts {
@@ -138,7 +153,12 @@ impl Counts {
         let mut count = BTreeMap::new();
         for (_, names) in NEEDED {
             for name in *names {
-                count.insert(*name, 0);
+                count.insert(name.to_string(), 0);
+            }
+        }
+        for (_, _, line) in lines() {
+            for (name, _) in line {
+                count.insert(name, 0);
             }
         }
         Counts {
@@ -151,15 +171,23 @@ impl Counts {
             mono_codes: [0; 256],
             mono_bits: [[0; 64]; 2],
             mono_widths: [[0; 17]; 2],
+            row_lengths: [[0; ROW_LENGTHS.len() + 1]; WAYS.len()],
+            neighbours: [0; 8 * PLAIN.len()],
+            blt_bits: [[0; 2_048]; 3],
+            vector_bits: [[0; 2_048]; 3],
             units: 0,
             wrote: [None, None],
             loaded: (0, 0),
+            overtakes: false,
+            recording: false,
         }
     }
 
-    pub fn begin_case(&mut self) {
+    pub fn begin_case(&mut self, recording: bool) {
         self.wrote = [None, None];
         self.loaded = (0, 0);
+        self.overtakes = false;
+        self.recording = recording;
     }
 
     pub fn hit(&mut self, name: &str) {
@@ -181,15 +209,25 @@ impl Counts {
         for (group, names) in NEEDED {
             println!("{group}:");
             for name in *names {
-                let count = self.count[name];
+                let count = self.count[*name];
                 println!("  {name}: {count}");
                 if count == 0 {
                     missing.push(format!("{group}: {name}"));
                 }
             }
         }
+        let mut last_group = "";
+        for (group, kind, line) in lines() {
+            if group != last_group {
+                println!("{group}, at each depth:");
+                last_group = group;
+            }
+            let counts: Vec<String> = line.iter().map(|(name, column)| format!("{column} {}", self.count[name])).collect();
+            println!("  {kind}: {}", counts.join(", "));
+            missing.extend(line.iter().filter(|(name, _)| self.count[name] == 0).map(|(name, _)| format!("{group}: {name}")));
+        }
         println!("sets, all of which must come up:");
-        let sets: [(&str, &[u64]); 10] = [
+        let mut sets: Vec<(&str, &[u64])> = vec![
             ("raster codes of BLTs", &self.blt_codes),
             ("raster codes of vectors", &self.vector_codes),
             ("origins of opaque mono patterns", &self.opaque_origins),
@@ -200,7 +238,16 @@ impl Counts {
             ("byte-packed: XLSBS with width modulo 8", &self.mono_bits[1]),
             ("unpacked: widths 1 to 17", &self.mono_widths[0]),
             ("byte-packed: widths 1 to 17", &self.mono_widths[1]),
+            ("codes one bit off CCh, F0h and 5Ah, where it shows", &self.neighbours),
+            ("BLTs at 8 bits: the bits of the raster codes", &self.blt_bits[0]),
+            ("BLTs at 16 bits: the bits of the raster codes", &self.blt_bits[1]),
+            ("BLTs at 32 bits: the bits of the raster codes", &self.blt_bits[2]),
+            ("vectors at 8 bits: the bits of the raster codes", &self.vector_bits[0]),
+            ("vectors at 16 bits: the bits of the raster codes", &self.vector_bits[1]),
+            ("vectors at 32 bits: the bits of the raster codes", &self.vector_bits[2]),
         ];
+        let rows: Vec<String> = WAYS.iter().map(|way| format!("{way}: rows about 1, 8, 16, 32 and 64 bytes, and longer")).collect();
+        sets.extend(rows.iter().zip(&self.row_lengths).map(|(name, set)| (name.as_str(), &set[..])));
         for (name, set) in sets {
             let seen = set.iter().filter(|count| **count > 0).count();
             println!("  {name}: {seen} of {}, each {} times or more", set.len(), set.iter().min().unwrap_or(&0));
@@ -354,6 +401,15 @@ impl Counts {
             let x_back = sign(if axis == "X" { 1 } else { 2 }) == "-";
             self.hit_if(x_back && depth > 1, &format!("vector back {} bpp", 8 * depth));
             let pixels: Vec<_> = model::vector_pixels(r, depth).collect();
+            // pixels that lie before or behind all that were drawn: as the vector finds them
+            let mut drawn = (i64::MAX, i64::MIN);
+            for at in pixels.iter().map(|pixel| pixel.position).take(64) {
+                if at + depth <= drawn.0 || drawn.1 < at {
+                    let value = (0..depth).fold(0, |value, byte| value | u32::from(frame[(at + byte) as usize]) << (8 * byte));
+                    count_bits(&mut self.vector_bits, code, depth, [r[PAT_COLOR_0], r[SRC_COLOR_FG], value]);
+                }
+                drawn = (drawn.0.min(at), drawn.1.max(at + depth - 1));
+            }
             self.hit_if(pixels.len() == 1, "vector length 1");
             self.hit_if(pixels.len() > 100, "vector over 100 pixels");
             self.hit_if(pixels[..pixels.len() - 1].iter().any(|pixel| pixel.error == 0), "vector error 0");
@@ -370,6 +426,7 @@ impl Counts {
             return;
         }
         self.blt_codes[code] += 1;
+        self.short_ways(r, frame);
         self.hit(&format!("blt format {:04b}", field(raster, 31, 28)));
         let transparent = field(raster, 10, 10) == 1;
         let origin = field(r[DST_OFFSET], 31, 26) as usize;
@@ -575,6 +632,87 @@ impl Counts {
     }
 }
 
+impl Counts {
+    /// A BLT that is drawn, by the ways of W3.
+    fn short_ways(&mut self, r: &Registers, frame: &[u8]) {
+        let depth = model::bytes_per_pixel(r).unwrap_or(1);
+        let way = short_ways::way(r);
+        let row = depth * model::width(r);
+        match ROW_LENGTHS.iter().position(|length| *length == row) {
+            Some(slot) => self.row_lengths[way][slot] += 1,
+            None if row > 65 => self.row_lengths[way][ROW_LENGTHS.len()] += 1,
+            None => {}
+        }
+        let kinds = short_ways::kinds(r, frame);
+        self.overtakes = kinds.contains(&format!("{}: overtakes in a row", WAYS[way]));
+        for kind in kinds {
+            self.hit(&short_ways::at_depth(r, &kind));
+        }
+
+        // the first pixels' operands
+        let code = field(r[RASTER_MODE], 7, 0);
+        let mut now = frame.to_vec();
+        let mut unlike = [false; PLAIN.len()];
+        for k in 0..model::pixel_count(Kind::Blt, r).min(64) {
+            if let Some([p, s, d]) = short_ways::operands(r, &now, k) {
+                count_bits(&mut self.blt_bits, code as usize, depth, [p, s, d]);
+                let result = |code: u32| model::raster_operation(code, p, s, d, 8 * depth);
+                for (plain, unlike) in PLAIN.iter().zip(&mut unlike) {
+                    *unlike |= (code ^ plain).is_power_of_two() && result(code) != result(*plain);
+                }
+            }
+            model::draw_blt_pixel(r, &mut now, k);
+        }
+        for (i, plain) in PLAIN.iter().enumerate().filter(|(i, _)| unlike[*i]) {
+            self.neighbours[8 * i + (code ^ plain).trailing_zeros() as usize] += 1;
+        }
+    }
+
+    /// A run that begins, and draws, inside a row of a BLT.
+    fn taken_up(&mut self, r: &Registers, drawn: i64) {
+        let way = short_ways::way(r);
+        let column = drawn % model::width(r);
+        if column == 0 {
+            return;
+        }
+        self.hit(&short_ways::at_depth(r, &format!("{}: taken up inside a row", WAYS[way])));
+        if way <= OTHER_CODE && self.overtakes {
+            self.hit(&short_ways::at_depth(r, &format!("{}: taken up inside a row that overtakes", WAYS[way])));
+        }
+        if way == TEXT && (model::source_xlsbs(r) + column) % 8 != 0 {
+            self.hit(&short_ways::at_depth(r, "text: taken up inside a font byte"));
+        }
+        if way == MONO_PATTERN && column % 8 != 0 {
+            let tile = if field(r[RASTER_MODE], 10, 10) == 1 { "a transparent tile" } else { "a tile" };
+            self.hit(&short_ways::at_depth(r, &format!("mono pattern: taken up inside {tile}")));
+        }
+    }
+}
+
+/// Which bits of the code these values of P, S and D ask for.
+fn count_bits(bits: &mut [[u64; 2_048]; 3], code: usize, depth: i64, [p, s, d]: [u32; 3]) {
+    let slot = [1, 2, 4].iter().position(|bytes| *bytes == depth).unwrap_or(0);
+    for index in 0..8 {
+        let side = |value: u32, bit: usize| if index & bit != 0 { value } else { !value };
+        if field(side(p, 4) & side(s, 2) & side(d, 1), 8 * depth as u32 - 1, 0) != 0 {
+            bits[slot][8 * code + index] += 1;
+        }
+    }
+}
+
+/// The lines of W3's kinds: group, kind, and its names with depth and direction.
+fn lines() -> Vec<(&'static str, String, Vec<(String, String)>)> {
+    let mut lines = Vec::new();
+    for each in short_ways::NEEDED {
+        for of in each.of {
+            for name in each.names {
+                lines.push((each.group, format!("{of} {name}"), each.line(of, name)));
+            }
+        }
+    }
+    lines
+}
+
 fn mode_name(r: &Registers) -> &'static str {
     match model::source_mode(r) {
         SourceMode::Colour => "colour",
@@ -585,7 +723,7 @@ fn mode_name(r: &Registers) -> &'static str {
 }
 
 /// False if the code gives the same for both source bits.
-fn reads_source(r: &Registers) -> bool {
+pub fn reads_source(r: &Registers) -> bool {
     let code = field(r[RASTER_MODE], 7, 0);
     (code >> 2) & 0x33 != code & 0x33
 }
@@ -705,6 +843,9 @@ impl Counts {
         self.hit_if(budget == 1, "budget 1");
         self.hit_if(budget >= 1 << 31, "budget huge");
         let used = budget > 0 && answer.units == budget;
+        if let Some(place) = before.place.filter(|place| place.kind == Kind::Blt && answer.units > 0) {
+            self.taken_up(&before.registers, place.drawn);
+        }
         match answer.word {
             Word::Waiting => {
                 self.hit("run waiting");
@@ -732,6 +873,10 @@ impl Counts {
                         let depth = model::bytes_per_pixel(&after.registers).unwrap_or(1);
                         let back = place.kind == Kind::Blt && model::x_negative(&after.registers) && depth > 1;
                         self.hit_if(back, &format!("spent inside X- {} bpp", 8 * depth));
+                        if self.recording && place.kind == Kind::Blt && place.drawn % model::width(&after.registers) != 0 {
+                            let way = WAYS[short_ways::way(&after.registers)];
+                            self.hit(&short_ways::at_depth(&after.registers, &format!("{way}: recording ends inside a row")));
+                        }
                         let left = model::pixel_count(place.kind, &after.registers) - place.drawn;
                         self.hit_if(left == 1 && used, "budget one short");
                     }

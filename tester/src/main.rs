@@ -9,6 +9,7 @@ mod model;
 mod programs;
 #[cfg(test)]
 mod shop;
+mod short_ways;
 
 use cases::Rng;
 use counts::Counts;
@@ -45,7 +46,7 @@ struct Case {
 }
 
 fn make_case(rng: &mut Rng, number: u64, counts: &mut Counts) -> Case {
-    counts.begin_case();
+    counts.begin_case(number % 2 == 0);
     let (name, input) = match number % 16 {
         0 => cases::damaged_recording(rng),
         1 => cases::damaged_trace(rng),
