@@ -367,11 +367,15 @@ fn font_place(rng: &mut Rng, row: i64, source_row: i64) -> i64 {
 
 /// How many bytes a colour source lies behind the destination, either way: part of a row, or some rows, or both.
 fn source_place(rng: &mut Rng, row: i64, depth: i64, stride: i64) -> i64 {
-    let mut step = match rng.below(10) {
+    if rng.chance(1, 6) {
+        // rows that touch, or share a byte or a pixel
+        let step = row - rng.pick(&[0, 1, 1, depth]);
+        return rng.pick(&[-step, step]);
+    }
+    let mut step = match rng.below(9) {
         0 => rng.between(1, depth),
-        1 => row - rng.between(0, depth), // rows that touch, or share a pixel or less
-        2 => rng.between(1, row),
-        3 | 4 => 0,
+        1 => rng.between(1, row),
+        2 | 3 => 0,
         _ => {
             let (low, high) = rng.pick(&[(1, 15), (16, 31), (32, 63), (64, row), (64, row)]);
             if low < row { rng.between(low, high.min(row)) } else { rng.between(1, row) }
@@ -855,7 +859,7 @@ pub fn recording(rng: &mut Rng) -> Vec<u8> {
     let mut cuts = Cuts::new();
     let (_, answer) = model::run(state, &ring, &mut frame, limit, &mut |_, _, _, after| cuts.see(after));
     let budget = match cuts.pick(rng) {
-        Some(cut) if rng.chance(1, 2) => cut,
+        Some(cut) if rng.chance(3, 5) => cut,
         _ => some_budget(rng, answer.units, if answer.word == Word::Spent { limit } else { u32::MAX }, true),
     };
 
@@ -894,8 +898,8 @@ impl Cuts {
     /// One of them, or none; ways that are rare are taken more often, and text, which has one direction, less.
     fn pick(&self, rng: &mut Rng) -> Option<u32> {
         let all = [
-            "fill", "fill", "fill", "XOR", "XOR", "XOR", "copy", "copy", "other code", "other code", "mono pattern", "mono pattern",
-            "sourceless", "sourceless", "text",
+            "fill", "fill", "fill", "fill", "fill", "XOR", "XOR", "XOR", "XOR", "copy", "copy", "copy", "other code", "other code",
+            "mono pattern", "mono pattern", "mono pattern", "sourceless", "sourceless", "text",
         ];
         let sides = |name: &&str| {
             let way = WAYS.iter().position(|way| way == name).unwrap_or(0);

@@ -31,7 +31,7 @@ pub const NEEDED: &[Each] = &[
             "in time by 32 to 63 bytes", "in time by 64 bytes and more", "in time, rows over 64 bytes", "overtakes in a row",
             "overtakes in a row by 1 to 15 bytes", "overtakes in a row by 16 to 31 bytes", "overtakes in a row by 32 to 63 bytes",
             "overtakes in a row by 64 bytes and more", "overtakes in a row of over 64 bytes", "overtakes at a row's last pixel alone",
-            "overtakes across rows alone, Y+", "overtakes across rows alone, Y-",
+            "overtakes in a row that shares one byte", "overtakes across rows alone, Y+", "overtakes across rows alone, Y-",
         ],
     },
     Each {
@@ -338,6 +338,9 @@ fn colour_source(r: &Registers, frame: &[u8], name: &str, kinds: &mut BTreeSet<S
         take(format!("{how} by {bytes}"));
         if row > 64 {
             take(if met { format!("{how} of over 64 bytes") } else { format!("{how}, rows over 64 bytes") });
+        }
+        if met && by == row - 1 {
+            take(format!("{how} that shares one byte"));
         }
         if by % depth != 0 {
             take(format!("{how}, not by whole pixels"));
