@@ -59,12 +59,13 @@ impl Rng {
         }
     }
 
-    /// A colour: mostly random, so that all bits of a raster code come up.
-    fn colour(&mut self) -> u32 {
-        if self.chance(1, 4) {
-            self.stale()
+    /// A pattern's and a source's colour: often with all four pairs of their bits in every byte, so that all bits of a raster code come up.
+    fn two_colours(&mut self) -> (u32, u32) {
+        if self.chance(1, 2) {
+            let turned = self.below(8) as u32;
+            (0xF0F0_F0F0u32.rotate_left(turned), 0xCCCC_CCCCu32.rotate_left(turned))
         } else {
-            self.bits()
+            (self.stale(), self.stale())
         }
     }
 
@@ -167,7 +168,7 @@ fn raster_mode(rng: &mut Rng, kind: Kind, frame_len: i64) -> u32 {
     let format = match frame_len {
         1 => 0,
         2 | 3 => rng.pick(&[0, 4, 5, 6]),
-        _ => rng.pick(&[0, 0, 4, 5, 6, 8, 8]),
+        _ => rng.pick(&[0, 0, 0, 4, 5, 6, 8, 8, 8]),
     };
     let mono = kind == Kind::Blt && rng.chance(2, 5);
     let transparent = rng.chance(if mono { 3 } else { 1 }, 6);
@@ -276,14 +277,11 @@ fn wish_blt(rng: &mut Rng, registers: &Registers, frame_len: i64, most: i64) -> 
     r[WID_HEIGHT] = rng.idle(0xF000_F000) | (width as u32) << 16 | height as u32;
     r[DST_OFFSET] = rng.bits() & 0xFC00_0000 | rng.idle(0x0300_0000);
     if rng.chance(3, 4) {
-        r[SRC_COLOR_FG] = rng.colour();
+        (r[PAT_COLOR_0], r[SRC_COLOR_FG]) = rng.two_colours();
+        r[PAT_COLOR_1] = rng.stale();
     }
     if mono && rng.chance(3, 4) {
-        r[SRC_COLOR_BG] = rng.colour();
-    }
-    if rng.chance(3, 4) {
-        r[PAT_COLOR_0] = rng.colour();
-        r[PAT_COLOR_1] = rng.colour();
+        r[SRC_COLOR_BG] = rng.stale();
     }
     if rng.chance(3, 4) {
         r[PAT_DATA_0] = rng.stale();
@@ -297,19 +295,17 @@ fn wish_blt(rng: &mut Rng, registers: &Registers, frame_len: i64, most: i64) -> 
 /// source that the BLT overtakes, or just does not.
 fn wish_short_way(rng: &mut Rng, registers: &Registers, frame_len: i64, most: i64) -> Registers {
     let mut r = wish_blt(rng, registers, frame_len, most);
-    if frame_len >= 64 {
-        r[RASTER_MODE] = r[RASTER_MODE] & 0x0FFF_FFFF | rng.pick(&[0, 0, 0, 4, 5, 6, 8, 8, 8]) << 28;
-    }
     let depth = model::bytes_per_pixel(&r).unwrap_or(1);
     let any_code = rng.bits() & 0xFF;
     let plain = rng.pick(&PLAIN);
-    let (code, source) = match rng.below(20) {
+    let (code, source) = match rng.below(22) {
         0..=4 => (0xCC, 1),
-        5..=8 => (rng.pick(&[0x66, 0xEE, 0x88, 0x33, 0xE2, any_code]), 1),
+        5..=8 => (rng.pick(&[0x66, 0xEE, 0x88, any_code, any_code, any_code]), 1),
         9..=11 => (0xF0, rng.below(2)),
         12..=14 => (0x5A, rng.below(2)),
         15 => (0xCC, 0),
         16 => (plain ^ 1 << rng.below(8), rng.below(3)),
+        17 | 18 => (any_code, rng.below(2)),
         _ => (rng.pick(&[0xCC, 0xF0, 0xF0, 0x5A, 0x5A, any_code]), 2),
     };
     r[RASTER_MODE] = r[RASTER_MODE] & !(0xFF | SI | ST) | code;
@@ -455,8 +451,7 @@ fn wish_vector(rng: &mut Rng, registers: &Registers, frame_len: i64, most: i64) 
         length = (length * 2 / 3).max(1);
     }
     if rng.chance(3, 4) {
-        r[SRC_COLOR_FG] = rng.colour();
-        r[PAT_COLOR_0] = rng.colour();
+        (r[PAT_COLOR_0], r[SRC_COLOR_FG]) = rng.two_colours();
     }
     for register in [PAT_COLOR_1, PAT_DATA_0, PAT_DATA_1] {
         if rng.chance(1, 3) {
@@ -735,12 +730,12 @@ fn some_frame_length(rng: &mut Rng) -> u32 {
 }
 
 /// Fills with random mono patterns over the whole frame, or over the last bytes of a long one, so that there is something to copy and a
-/// font to draw from: one in bytes, and with `twice` another in words over it, up to the last byte.
-fn ground(rng: &mut Rng, registers: &mut Registers, frame_len: u32, most: u32, twice: bool) -> Vec<u32> {
+/// font to draw from: one in bytes, and with `more` another in words over it, up to the last byte, and a few pixels by any code.
+fn ground(rng: &mut Rng, registers: &mut Registers, frame_len: u32, most: u32, more: bool) -> Vec<u32> {
     let bytes = if frame_len <= most { frame_len } else { most / 2 };
     let mut list = Vec::new();
     for (depth, raster_mode) in [(1, 0x0000_01F0), (4, 0x8000_015A)] {
-        if depth == 4 && !(twice && bytes >= 4) {
+        if depth == 4 && !(more && bytes >= 4) {
             continue;
         }
         let mut r = *registers;
@@ -757,6 +752,18 @@ fn ground(rng: &mut Rng, registers: &mut Registers, frame_len: u32, most: u32, t
         r[PAT_DATA_0] = rng.bits();
         r[PAT_DATA_1] = rng.bits();
         r[BLT_MODE] = 0;
+        let words = emit(rng, Kind::Blt, registers, &r, true);
+        load(registers, Kind::Blt, &words);
+        list.extend(words);
+    }
+    if more && bytes >= 64 {
+        let mut r = *registers;
+        let (format, depth) = rng.pick(&[(0, 1), (0, 1), (0, 1), (4, 2), (5, 2), (6, 2), (8, 4), (8, 4), (8, 4)]);
+        r[RASTER_MODE] = format << 28 | rng.bits() & 0xFF;
+        r[DST_OFFSET] = frame_len - 64;
+        r[STRIDE] = 32;
+        r[WID_HEIGHT] = (32 / depth) << 16 | 2;
+        (r[PAT_COLOR_0], r[SRC_COLOR_FG]) = (0xF0F0_F0F0, 0xCCCC_CCCC);
         let words = emit(rng, Kind::Blt, registers, &r, true);
         load(registers, Kind::Blt, &words);
         list.extend(words);

@@ -402,14 +402,15 @@ impl Counts {
             self.hit_if(x_back && depth > 1, &format!("vector back {} bpp", 8 * depth));
             let pixels: Vec<_> = model::vector_pixels(r, depth).collect();
             // pixels that lie before or behind all that were drawn: as the vector finds them
-            let mut drawn = (i64::MAX, i64::MIN);
+            let (mut drawn, mut asked) = ((i64::MAX, i64::MIN), 0);
             for at in pixels.iter().map(|pixel| pixel.position).take(64) {
                 if at + depth <= drawn.0 || drawn.1 < at {
                     let value = (0..depth).fold(0, |value, byte| value | u32::from(frame[(at + byte) as usize]) << (8 * byte));
-                    count_bits(&mut self.vector_bits, code, depth, [r[PAT_COLOR_0], r[SRC_COLOR_FG], value]);
+                    asked |= asked_bits(depth, [r[PAT_COLOR_0], r[SRC_COLOR_FG], value]);
                 }
                 drawn = (drawn.0.min(at), drawn.1.max(at + depth - 1));
             }
+            count_bits(&mut self.vector_bits, code, depth, asked);
             self.hit_if(pixels.len() == 1, "vector length 1");
             self.hit_if(pixels.len() > 100, "vector over 100 pixels");
             self.hit_if(pixels[..pixels.len() - 1].iter().any(|pixel| pixel.error == 0), "vector error 0");
@@ -652,10 +653,10 @@ impl Counts {
         // the first pixels' operands
         let code = field(r[RASTER_MODE], 7, 0);
         let mut now = frame.to_vec();
-        let mut unlike = [false; PLAIN.len()];
+        let (mut unlike, mut asked) = ([false; PLAIN.len()], 0);
         for k in 0..model::pixel_count(Kind::Blt, r).min(64) {
             if let Some([p, s, d]) = short_ways::operands(r, &now, k) {
-                count_bits(&mut self.blt_bits, code as usize, depth, [p, s, d]);
+                asked |= asked_bits(depth, [p, s, d]);
                 let result = |code: u32| model::raster_operation(code, p, s, d, 8 * depth);
                 for (plain, unlike) in PLAIN.iter().zip(&mut unlike) {
                     *unlike |= (code ^ plain).is_power_of_two() && result(code) != result(*plain);
@@ -663,6 +664,7 @@ impl Counts {
             }
             model::draw_blt_pixel(r, &mut now, k);
         }
+        count_bits(&mut self.blt_bits, code as usize, depth, asked);
         for (i, plain) in PLAIN.iter().enumerate().filter(|(i, _)| unlike[*i]) {
             self.neighbours[8 * i + (code ^ plain).trailing_zeros() as usize] += 1;
         }
@@ -690,13 +692,15 @@ impl Counts {
 }
 
 /// Which bits of the code these values of P, S and D ask for.
-fn count_bits(bits: &mut [[u64; 2_048]; 3], code: usize, depth: i64, [p, s, d]: [u32; 3]) {
-    let slot = [1, 2, 4].iter().position(|bytes| *bytes == depth).unwrap_or(0);
-    for index in 0..8 {
-        let side = |value: u32, bit: usize| if index & bit != 0 { value } else { !value };
-        if field(side(p, 4) & side(s, 2) & side(d, 1), 8 * depth as u32 - 1, 0) != 0 {
-            bits[slot][8 * code + index] += 1;
-        }
+fn asked_bits(depth: i64, [p, s, d]: [u32; 3]) -> u32 {
+    let side = |value: u32, set: bool| if set { value } else { !value };
+    let asked = |bit: &u32| side(p, bit & 4 != 0) & side(s, bit & 2 != 0) & side(d, bit & 1 != 0);
+    (0..8).filter(|bit| field(asked(bit), 8 * depth as u32 - 1, 0) != 0).map(|bit| 1 << bit).sum()
+}
+
+fn count_bits(bits: &mut [[u64; 2_048]; 3], code: usize, depth: i64, asked: u32) {
+    for bit in (0..8).filter(|bit| asked >> bit & 1 == 1) {
+        bits[depth as usize / 2][8 * code + bit] += 1;
     }
 }
 
