@@ -144,6 +144,8 @@ pub struct Counts {
     loaded: (u32, u32),
     /// that command overtakes itself in a row
     overtakes: bool,
+    /// no unit was done since the last call
+    fresh: bool,
     /// this case is a recording: frame memory is compared where its run ends
     recording: bool,
 }
@@ -179,6 +181,7 @@ impl Counts {
             wrote: [None, None],
             loaded: (0, 0),
             overtakes: false,
+            fresh: true,
             recording: false,
         }
     }
@@ -187,6 +190,7 @@ impl Counts {
         self.wrote = [None, None];
         self.loaded = (0, 0);
         self.overtakes = false;
+        self.fresh = true;
         self.recording = recording;
     }
 
@@ -670,7 +674,7 @@ impl Counts {
         }
     }
 
-    /// A run that begins, and draws, inside a row of a BLT.
+    /// A run that begins with this pixel of a BLT.
     fn taken_up(&mut self, r: &Registers, drawn: i64) {
         let way = short_ways::way(r);
         let column = drawn % model::width(r);
@@ -785,6 +789,12 @@ fn ends_inside(state: &State, ring: &[u32]) -> bool {
 impl Watch for Counts {
     fn unit(&mut self, before: &State, ring: &[u32], frame: &[u8], after: &State) {
         self.units += 1;
+        if self.fresh {
+            self.fresh = false;
+            if let Some(place) = before.place.filter(|place| place.kind == Kind::Blt) {
+                self.taken_up(&before.registers, place.drawn);
+            }
+        }
         if before.place.is_some() {
             self.hit_if(after.place.is_none(), "retired by last pixel");
         } else if after.stop != 0 {
@@ -795,6 +805,7 @@ impl Watch for Counts {
     }
 
     fn call(&mut self, call: Call, before: &State, ring: &[u32], answer: &Answer, after: &State) {
+        self.fresh = true;
         if let Word::Refused(number) = answer.word {
             self.hit(&number.to_string());
             if let Call::Publish(position) = call {
@@ -847,9 +858,6 @@ impl Counts {
         self.hit_if(budget == 1, "budget 1");
         self.hit_if(budget >= 1 << 31, "budget huge");
         let used = budget > 0 && answer.units == budget;
-        if let Some(place) = before.place.filter(|place| place.kind == Kind::Blt && answer.units > 0) {
-            self.taken_up(&before.registers, place.drawn);
-        }
         match answer.word {
             Word::Waiting => {
                 self.hit("run waiting");
