@@ -193,37 +193,32 @@ module _ (depth bits flip1 keep1 flip0 keep0 : ℕ) where
   abbrev rule : ℕ → ℕ → ℕ
   rule = markRule bits flip1 keep1 flip0 keep0
 
-  -- eight pixels from one whose number is a whole eights are those from number 0
-  eight-at : (i at : ℕ) → i % 8 ≡ 0 → at ≡ i * depth → (row : List ℕ)
-      → changedRow depth rule 8 at row ≡ inOrder (changedAt depth rule 0) (0 + i) 8 row
-  eight-at i at w a =
-      order-same (changedAt depth rule at) (changedAt depth rule 0) 8 0 (0 + i)
+  -- c pixels from one whose number is a multiple of eight go by the bits as those from number 0 do
+  chunk-at : (c i at : ℕ) → i % 8 ≡ 0 → at ≡ i * depth → (row : List ℕ)
+      → changedRow depth rule c at row ≡ inOrder (changedAt depth rule 0) i c row
+  chunk-at c i at w a =
+      order-same (changedAt depth rule at) (changedAt depth rule 0) c 0 i
       (λ m l row.
-      let z : (0 + i + m) % 8 ≡ (0 + m) % 8 = omega arith in
-      let y : 0 + (0 + i + m) * depth ≡ at + (0 + m) * depth = omega (arith, add-mul i m depth) in
+      let z : (i + m) % 8 ≡ (0 + m) % 8 = omega arith in
+      let y : 0 + (i + m) * depth ≡ at + (0 + m) * depth = omega (arith, add-mul i m depth) in
       rw (z, y))
 
-  -- eight more of a row whose writer goes by eights
-  pub eights-next : {n : ℕ} {first : List ℕ} {i at : ℕ} {row next : List ℕ} → Remain (changedAt depth rule 0) 0 n first i row
-      → i + 8 ≤ n → i % 8 ≡ 0 → at ≡ i * depth → next ≡ changedRow depth rule 8 at row → Remain (changedAt depth rule 0) 0 n first (i + 8) next
-  eights-next {i = i} {at} {row} r l w a e = remain-add (length-changed depth rule 0) r 8 l (e ∙ eight-at i at w a row)
+  -- so many more of a row whose writer goes by eights from pixel k
+  pub chunk-next : (k c : ℕ) {n : ℕ} {first : List ℕ} {m at : ℕ} {row next : List ℕ} → Remain (changedAt depth rule 0) k n first m row
+      → m + c ≤ n → (k + m) % 8 ≡ 0 → at ≡ (k + m) * depth → next ≡ changedRow depth rule c at row
+      → Remain (changedAt depth rule 0) k n first (m + c) next
+  chunk-next k c {m = m} {at} {row} r l w a e = remain-add (length-changed depth rule 0) r c l (e ∙ chunk-at c (k + m) at w a row)
 
-  -- the whole eights of a row, then the rest
-  module _ (row : List ℕ) {middle : List ℕ} (e : middle ≡ changedRow depth rule (wholeEights (length row / depth)) 0 row) where
-    same : length middle ≡ length row
-    same = rw e (order-length (changedAt depth rule 0) (length-changed depth rule 0) _ 0 row)
+  -- the first w pixels of a row, then those up to n
+  module _ (row : List ℕ) {w n : ℕ} (p : w ≤ n) {middle : List ℕ} (e : middle ≡ changedRow depth rule w 0 row) where
+    pub same-row : length middle ≡ length row
+    same-row = rw e (order-length (changedAt depth rule 0) (length-changed depth rule 0) w 0 row)
 
-    pub eights-within : wholeEights (length row / depth) ≤ length middle / depth
-    eights-within = rw same (omega arith)
-
-    pub marks-all : {next : List ℕ}
-        → next ≡ inOrder (changedAt depth rule 0) (wholeEights (length row / depth)) (length middle / depth - wholeEights (length row / depth)) middle
-        → next ≡ changedRow depth rule (length row / depth) 0 row
-    marks-all f =
-        let w = wholeEights (length row / depth) in
+    pub then-rest : {next : List ℕ} → next ≡ inOrder (changedAt depth rule 0) w (n - w) middle → next ≡ changedRow depth rule n 0 row
+    then-rest f =
         let z : 0 + w ≡ w = omega arith in
-        let all : w + (length row / depth - w) ≡ length row / depth = omega arith in
-        f ∙ rw (same, e) (rw (z, all) at (order-add (changedAt depth rule 0) w 0 (length row / depth - w) row))
+        let all : w + (n - w) ≡ n = omega arith in
+        f ∙ rw e (rw (z, all) at (order-add (changedAt depth rule 0) w 0 (n - w) row))
 
 -- ---- mono patterns
 

@@ -172,16 +172,54 @@ pub fn eight(row: &mut [u8], depth: usize, at: usize, bits: u32, set: Blend, cle
     eight4(row, at, bits, set, clear);
 }
 
-// Applies them to as many pixels of a row as make whole eights, at one byte a pixel.
-fn eights1(row: &mut [u8], bits: u32, set: Blend, clear: Blend)
-    ensures { λ _. ⌜ now (row .exit) ≡ changedRow 1 (markRule bits (set .flip) (set .keep) (clear .flip) (clear .keep)) (wholeEights (length (now (row .entry)) / 1)) 0 (now (row .entry)) ⌝ }
+// Applies them to 32 pixels, four times the eight, at one byte a pixel: two wide stores.
+fn tile(row: &mut [u8], at: usize, bits: u32, set: Blend, clear: Blend)
+    requires { ⌜ at + 32 ≤ length (now row) ⌝ }
+    ensures { λ _. ⌜ now (row .exit) ≡ changedRow 1 (markRule bits (set .flip) (set .keep) (clear .flip) (clear .keep)) 32 at (now (row .entry)) ⌝ }
+{
+    let mut i = 0;
+    while i < 32 {
+        let a = at + i;
+        let flip = pick(bits, i, set.flip, clear.flip);
+        let keep = pick(bits, i, set.keep, clear.keep);
+        let old = pixel::get1(row, a);
+        pixel::put1(row, a, flip ^ (old & keep));
+        i += 1;
+    }
+}
+
+// Applies them to as many pixels of a row of one byte a pixel as make whole tiles, and says how many.
+fn tiles(row: &mut [u8], bits: u32, set: Blend, clear: Blend) -> usize
+    ensures { λ r. ⌜ (r % 8 ≡ 0) × (r ≤ length (now (row .entry))) × (now (row .exit) ≡ changedRow 1 (markRule bits (set .flip) (set .keep) (clear .flip) (clear .keep)) r 0 (now (row .entry))) ⌝ }
 {
     let n = row.len();
     let mut i = 0;
-    while i + 8 <= n {
-        eight1(row, i, bits, set, clear);
-        i += 8;
+    while i + 32 <= n {
+        tile(row, i, bits, set, clear);
+        i += 32;
     }
+    i
+}
+
+// Applies them from pixel k on to as many as make whole eights.
+fn more_eights(row: &mut [u8], k: usize, bits: u32, set: Blend, clear: Blend)
+    requires { ⌜ (k % 8 ≡ 0) × (k ≤ length (now row)) ⌝ }
+    ensures { λ _. ⌜ now (row .exit) ≡ inOrder (changedAt 1 (markRule bits (set .flip) (set .keep) (clear .flip) (clear .keep)) 0) k (wholeEights (length (now (row .entry))) - k) (now (row .entry)) ⌝ }
+{
+    let n = row.len() - k;
+    let mut m = 0;
+    while m + 8 <= n {
+        eight1(row, k + m, bits, set, clear);
+        m += 8;
+    }
+}
+
+// Applies them to as many pixels of a row as make whole eights, at one byte a pixel: whole tiles first.
+fn eights1(row: &mut [u8], bits: u32, set: Blend, clear: Blend)
+    ensures { λ _. ⌜ now (row .exit) ≡ changedRow 1 (markRule bits (set .flip) (set .keep) (clear .flip) (clear .keep)) (wholeEights (length (now (row .entry)) / 1)) 0 (now (row .entry)) ⌝ }
+{
+    let k = tiles(row, bits, set, clear);
+    more_eights(row, k, bits, set, clear);
 }
 
 // The same at two bytes a pixel.

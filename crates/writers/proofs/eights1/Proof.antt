@@ -1,59 +1,25 @@
-use native.Mathlib.Nat.{div-one}
-use Prim.Native.Nat.{_-_, _*_, _%_}
-use mathlib.Core.Path.{_≡_}
 use native.Mathlib.Omega.{arith}
-use Rattle.laws.specs.Order.{Remain, remain-all, remain-none}
-use Rattle.laws.specs.Changes.{changedAt}
-use Rattle.laws.specs.Plain.{markRule, wholeEights, eights-next}
+use native.Mathlib.Nat.{div-one}
+use borrow.Author.Needs.{needs}
+use Rattle.laws.specs.Plain.{same-row, then-rest}
 use Rattle.writers.proofs.eights1.Statement.{statement}
 use Rattle.writers.proofs.eights1.Tie as tie
 
-abbrev Inv-loop : tie.InvT-loop
-Inv-loop row₀ bits set clear n i₀ row i =
-    (i % 8 ≡ 0) × (Remain (changedAt 1 (markRule bits (set .flip) (set .keep) (clear .flip) (clear .keep)) 0) 0 (wholeEights n) row₀ i row)
+tiles-requires : tie.Need-tiles-requires
+tiles-requires c κs = search needs
 
-abbrev μ-loop : tie.MeasureT-loop
-μ-loop row₀ bits set clear n i₀ row i = n - i
+more-eights-requires : tie.Need-more-eights-requires
+more-eights-requires c κs =
+    (c .before .before .before .tiles .ensures .0, omega (arith, c .before .before .before .tiles .ensures .1, same-row 1 (c .before .before .before .before .before .before .args .bits) (c .before .before .before .before .before .before .args .set .flip) (c .before .before .before .before .before .before .args .set .keep) (c .before .before .before .before .before .before .args .clear .flip) (c .before .before .before .before .before .before .args .clear .keep) (c .before .before .before .before .before .before .args .row .now) (c .before .before .before .tiles .ensures .1) (c .before .before .before .tiles .ensures .2)))
 
-loop-holds : tie.Need-loop-holds Inv-loop μ-loop
-loop-holds c = (omega arith, remain-all _)
+same-length : tie.Need-same-length
+same-length c = search needs
 
-add-loop : tie.Need-add-loop Inv-loop μ-loop
-add-loop c = omega (arith, c .loop .inv .1 .drawn)
-
-eight1-requires : tie.Need-eight1-requires Inv-loop μ-loop
-eight1-requires c κs = omega (arith, c .before .before .loop .inv .1 .same)
-
-add-i : tie.Need-add-i Inv-loop μ-loop
-add-i c = omega arith
-
-loop-less : tie.Need-loop-less Inv-loop μ-loop
-loop-less c = omega arith
-
-loop-again : tie.Need-loop-again Inv-loop μ-loop
-loop-again c = (
-  omega (arith, c .before .before .before .before .before .loop .inv .0),
-  eights-next 1 (c .before .before .before .before .before .before .before .args .bits) (c .before .before .before .before .before .before .before .args .set .flip) (c .before .before .before .before .before .before .before .args .set .keep) (c .before .before .before .before .before .before .before .args .clear .flip) (c .before .before .before .before .before .before .before .args .clear .keep) {at = c .before .before .before .before .before .loop .i} (c .before .before .before .before .before .loop .inv .1)
-      (omega (arith, c .before .before .before .before .before .loop .inv .0, c .before .before .before .before .loop-test .taken)) (c .before .before .before .before .before .loop .inv .0) (omega arith) (c .before .before .eight1 .ensures),
-)
-
-same-length : tie.Need-same-length Inv-loop μ-loop
-same-length c = c .before .loop .inv .1 .same
-
-returns : tie.Need-returns Inv-loop μ-loop
-returns c = rw div-one (remain-none (c .before .loop .inv .1) (omega (arith, c .before .loop .inv .0, c .loop-test .left)))
+returns : tie.Need-returns
+returns c =
+    rw div-one
+    (then-rest 1 (c .before .before .before .before .before .before .before .before .before .args .bits) (c .before .before .before .before .before .before .before .before .before .args .set .flip) (c .before .before .before .before .before .before .before .before .before .args .set .keep) (c .before .before .before .before .before .before .before .before .before .args .clear .flip) (c .before .before .before .before .before .before .before .before .before .args .clear .keep) (c .before .before .before .before .before .before .before .before .before .args .row .now) (omega (arith, c .before .before .before .before .before .before .tiles .ensures .0, c .before .before .before .before .before .before .tiles .ensures .1)) (c .before .before .before .before .before .before .tiles .ensures .2)
+    (rw (← same-row 1 (c .before .before .before .before .before .before .before .before .before .args .bits) (c .before .before .before .before .before .before .before .before .before .args .set .flip) (c .before .before .before .before .before .before .before .before .before .args .set .keep) (c .before .before .before .before .before .before .before .before .before .args .clear .flip) (c .before .before .before .before .before .before .before .before .before .args .clear .keep) (c .before .before .before .before .before .before .before .before .before .args .row .now) (c .before .before .before .before .before .before .tiles .ensures .1) (c .before .before .before .before .before .before .tiles .ensures .2)) (c .before .before .more-eights .ensures)))
 
 pub eights1-spec : {M : Type 1} → statement M
-eights1-spec =
-    tie.close
-    (tie.spec
-    Inv-loop
-    μ-loop
-    loop-holds
-    add-loop
-    eight1-requires
-    add-i
-    loop-less
-    loop-again
-    same-length
-    returns)
+eights1-spec = tie.close (tie.spec tiles-requires more-eights-requires same-length returns)
