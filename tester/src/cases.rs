@@ -891,7 +891,7 @@ impl Cuts {
     fn see(&mut self, after: &State) {
         self.units += 1;
         let r = &after.registers;
-        if let Some(place) = after.place.filter(|place| place.kind == Kind::Blt && after.completion >= 2) {
+        if let Some(place) = after.place.filter(|place| place.kind == Kind::Blt && after.completion >= 3) {
             if self.units == 1 || place.drawn <= 1 {
                 let depth = model::bytes_per_pixel(r).unwrap_or(1) as usize;
                 self.slot = (short_ways::way(r), 2 * (depth / 2) + usize::from(model::x_negative(r)));
