@@ -203,10 +203,10 @@ pub fn blt_of(registers: [u32; REGISTERS]) -> Blt
 fn is_sourceless(code: u32) -> bool
     ensures { λ r. ⌜ r ≡ sourceless code ⌝ }
 {
-    if code == 0xF0 {
+    if code == 0x5A {
         return true;
     }
-    code == 0x5A
+    code == 0xF0
 }
 
 // Whether one value serves as the source of every pixel.

@@ -70,7 +70,7 @@ unread code c m p s t d =
 
 -- so where the source gives every pixel a value, any serves; and where none is selected, its colour does
 abbrev pub sourceless : ℕ → Bool
-sourceless code = code =? 0xF0 || code =? 0x5A
+sourceless code = code =? 0x5A || code =? 0xF0
 
 abbrev pub isPlain : ℕ → Source → Bool
 isPlain code (Unselected color) = true
@@ -84,7 +84,7 @@ plainValue (Bits m) = 0
 
 opaque-plain : (code : ℕ) (s : Source) → sourceless code ≡ true → isOpaque s ≡ true → Plain code s 0
 opaque-plain code s e p =
-    let c = ⊎-elim (λ f. inl (eqb-true code 0xF0 f)) (λ f. inr (eqb-true code 0x5A f)) (either (code =? 0xF0) (code =? 0x5A) e) in
+    let c = ⊎-elim (λ f. inr (eqb-true code 0x5A f)) (λ f. inl (eqb-true code 0xF0 f)) (either (code =? 0x5A) (code =? 0xF0) e) in
     record {
       serves = λ i j frame. let o = opaque-value s i j frame p in (o .0, o .1, λ m p d. unread code c m p (o .0) 0 d);
     }

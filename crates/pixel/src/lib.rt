@@ -261,10 +261,10 @@ pub fn pattern_index(negative: bool, low: usize, n: usize) -> usize
 fn pattern_word(data0: u32, data1: u32, row: usize) -> u32
     ensures { λ r. ⌜ r ≡ (if row <? 4 then data0 else data1) ⌝ }
 {
-    if row < 4 {
-        return data0;
+    if 4 <= row {
+        return data1;
     }
-    data1
+    data0
 }
 
 // The eight bits of a pattern row from a column on and round, bit 7 first. What stands above them is of no account.
