@@ -8,7 +8,7 @@ use lib.ListN.{length}
 use Rattle.model.specs.Limits.{frameMost}
 use Rattle.model.specs.Formats.{Depth}
 use Rattle.model.specs.Pixel.{readPixel, storePixel}
-use Rattle.model.specs.Raster.{raster, raster-source}
+use Rattle.model.specs.Raster.{raster}
 use Rattle.model.specs.Rectangle.{ahead, behind, pixelByte, columnOf, rowOf, pixelsOf}
 use Rattle.model.specs.Operands.{drawOperands}
 use Rattle.model.specs.Bits.{bit}
@@ -25,7 +25,7 @@ use Rattle.model.specs.declared.Source.{Source}
 use Rattle.model.specs.declared.Source.the-variants.{Unselected, Frame, Bits}
 use Rattle.model.specs.declared.SourceValue.{SourceValue}
 use Rattle.model.specs.declared.SourceValue.the-variants.{Transparent, Value}
-use Rattle.laws.specs.Pixels.{store-low, length-store}
+use Rattle.laws.specs.Pixels.{length-store}
 use Rattle.laws.specs.Order.{inOrder, bltPixels, order-same, Remain, remain-all, remain-add}
 use Rattle.laws.specs.Ranges.{Matches, FitBits, FitSource, FitBlt}
 use Rattle.laws.specs.Numbers.{row-lt, column-add, row-add, column-next, row-next}
@@ -114,18 +114,6 @@ unfolding withSource withPattern
 solid-operands color r i j Transparent = refl
 solid-operands color r i j (Value v) = refl
 
--- what a source gives, stored as it is: code CCh gives the source
-abbrev pub storedValue : (depth at : ℕ) → SourceValue → List ℕ → List ℕ
-storedValue depth at Transparent frame = frame
-storedValue depth at (Value v) frame = storePixel depth frame at v
-
-value-stored : (depth at color : ℕ) (v : SourceValue) (frame : List ℕ)
-    → storedValue depth at v frame ≡ drawOperands depth 0xCC at (solidOperands color v) frame
-unfolding drawOperands
-value-stored depth at color Transparent frame = refl
-value-stored depth at color (Value v) frame =
-    sym (ap (storePixel depth frame at) (raster-source (8 * depth) color v _) ∙ store-low depth frame at v)
-
 -- the pixel at column i of row j, drawn with its operands at its first byte
 module _ (b : Blt) (i j : ℕ) (frame : List ℕ) {code at : ℕ} (c : code ≡ b .code) (a : at ≡ pixelByte (b .destination) i j) where
   pub operands-drawn : {o : Operands} → o ≡ operandsAt b i j frame
@@ -138,14 +126,6 @@ module _ (b : Blt) (i j : ℕ) (frame : List ℕ) {code at : ℕ} (c : code ≡ 
       → drawOperands (b .destination .depth) code at (solidOperands p v) frame ≡ drawAt b i j frame
   unfolding operandsAt
   solid-drawn {p = p} {v} solid e s = operands-drawn (solid-operands p (b .destination) i j v ∙ rw (solid, e, s))
-
-  pub copy-drawn : {color : ℕ} {v : SourceValue} → b .pattern ≡ Solid color → b .code ≡ 0xCC → v ≡ sourceValue (b .source) i j frame
-      → storedValue (b .destination .depth) at v frame ≡ drawAt b i j frame
-  copy-drawn {color} {v} solid copies s =
-      let e : 0xCC ≡ code = sym (c ∙ copies) in
-      value-stored (b .destination .depth) at color v frame
-      ∙ ap (λ (x : ℕ). drawOperands (b .destination .depth) x at (solidOperands color v) frame) e
-      ∙ solid-drawn {p = color} {v = v} solid refl s
 
   pub value-drawn : {color p v : ℕ} → b .pattern ≡ Solid color → p ≡ color → Value v ≡ sourceValue (b .source) i j frame
       → storePixel (b .destination .depth) frame at

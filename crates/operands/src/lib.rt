@@ -9,8 +9,7 @@ ghost use Rattle.model.specs.Expansion.{byteColumn, expand as expandBit};
 ghost use Rattle.model.specs.BltPixel.{sourceValue, monoBit, withPattern, operandsAt};
 ghost use Rattle.model.specs.declared.Pattern.the-variants.{Mono};
 ghost use Rattle.laws.specs.Ranges.{FitPattern};
-ghost use Rattle.laws.specs.Rows.{bitAt, SourceWithin, solidOperands, storedValue, PixelOf};
-ghost use Rattle.pixel.specs.Prepared.{Prepared};
+ghost use Rattle.laws.specs.Rows.{bitAt, SourceWithin, PixelOf};
 use model::Blt;
 use model::MonoPattern;
 use model::MonoSource;
@@ -19,7 +18,6 @@ use model::Pattern;
 use model::Rectangle;
 use model::Source;
 use model::SourceValue;
-use pixel::Operation;
 
 // ---- sources
 
@@ -49,7 +47,7 @@ fn expand(m: MonoSource, bit: u32) -> SourceValue
 }
 
 // What it gives column i of a row whose bytes begin at `from`.
-pub fn expanded(f: &[u8], m: MonoSource, from: usize, i: usize) -> SourceValue
+fn expanded(f: &[u8], m: MonoSource, from: usize, i: usize) -> SourceValue
     requires { ⌜ (m .skip + i < 2 ^ 32) × (from + byteColumn (m .skip) i < length (now f)) ⌝ }
     ensures { λ v. ⌜ v ≡ expandBit m (bitAt (m .skip) from i (now (f .entry))) ⌝ }
 {
@@ -154,27 +152,5 @@ pub fn draw(f: &mut [u8], depth: usize, code: u32, at: usize, o: Operands)
             let op = pixel::prepare(code, pattern);
             pixel::paint(f, op, depth, at, source);
         }
-    }
-}
-
-// Draws what a source and a solid pattern give, with the operation made ready for the pattern's colour.
-pub fn draw_solid(f: &mut [u8], op: Operation, depth: usize, at: usize, v: SourceValue)
-    requires { ⌜ (Prepared op) × (Depth depth) × (at + depth ≤ length (now f)) ⌝ }
-    ensures { λ _. ⌜ now (f .exit) ≡ drawOperands depth (op .code) at (solidOperands (op .pattern) v) (now (f .entry)) ⌝ }
-{
-    match v {
-        SourceValue::Transparent => {}
-        SourceValue::Value(source) => pixel::paint(f, op, depth, at, source),
-    }
-}
-
-// Stores what a source gives as it is.
-pub fn store(f: &mut [u8], depth: usize, at: usize, v: SourceValue)
-    requires { ⌜ (Depth depth) × (at + depth ≤ length (now f)) ⌝ }
-    ensures { λ _. ⌜ now (f .exit) ≡ storedValue depth at v (now (f .entry)) ⌝ }
-{
-    match v {
-        SourceValue::Transparent => {}
-        SourceValue::Value(value) => pixel::put(depth, f, at, value),
     }
 }
