@@ -311,7 +311,7 @@ fn change_mono(frame: &mut [u8], b: &Blt, r: &Registers, clear: Flat, set: Flat)
 
 /// What pixels get where the source's bit is clear, and where it is set, at a pattern value.
 #[inline]
-fn inks(b: &Blt, r: &Registers, pattern: u32) -> Inks {
+fn inks(b: &Blt, r: &Registers, pattern: u32) -> Inks<Flat> {
     let mode = r[RASTER_MODE];
     let [back, fore] = [SRC_COLOR_BG, SRC_COLOR_FG].map(|i| raster::repeated(b.depth, r[i]));
     let set = Flat::of(mode, pattern, fore);
@@ -334,8 +334,8 @@ fn draw_text(frame: &mut [u8], b: &Blt, r: &Registers, font: Font) {
     let set = inks(b, r, raster::repeated(b.depth, r[PAT_COLOR_1]));
     for j in 0..b.height {
         let mask = pattern_mask(b, r, j);
-        let clears = FlatTile::chosen(clear.clear, set.clear, &mask);
-        let sets = FlatTile::chosen(clear.set, set.set, &mask);
-        text::draw_in_order(frame, b, font, j, &clears, &sets);
+        let tiles =
+            Inks { clear: FlatTile::chosen(clear.clear, set.clear, &mask), set: FlatTile::chosen(clear.set, set.set, &mask) };
+        text::draw_mono(frame, b, font, j, tiles);
     }
 }

@@ -1,7 +1,7 @@
 //! Mono sources: rows of bits, expanded to pixels eight at a time.
 
 use crate::blt::{Blt, Rows};
-use crate::raster::{get, put, Flat, FlatTile, MASKS_1, MASKS_2, MASKS_4};
+use crate::raster::{get, put, Flat, FlatTile, Tile, MASKS_1, MASKS_2, MASKS_4};
 
 /// A mono source: its rows of bits, the bytes of each, and how many bits of a row's first byte are skipped.
 #[derive(Clone, Copy)]
@@ -11,56 +11,59 @@ pub struct Font {
     pub skip: u32,
 }
 
-/// What a pixel gets where its bit is clear, and where it is set.
+/// What pixels get where their bit is clear, and where it is set: of a solid pattern one operation, of a mono pattern eight.
 #[derive(Clone, Copy)]
-pub struct Inks {
-    pub clear: Flat,
-    pub set: Flat,
+pub struct Inks<F> {
+    pub clear: F,
+    pub set: F,
 }
 
-/// Two values, one for clear bits and one for set ones: `clear ^ (mask & differ)`.
-#[derive(Clone, Copy)]
-struct Choice {
-    clear: u32,
-    differ: u32,
+/// A word that is repeated, or the words of a tile.
+trait Words: Copy {
+    fn at(&self, i: usize) -> u32;
 }
 
-impl Choice {
-    fn new(clear: u32, set: u32) -> Choice {
-        Choice { clear, differ: clear ^ set }
-    }
-
+impl Words for u32 {
     #[inline(always)]
-    fn by(self, mask: u32) -> u32 {
-        self.clear ^ (mask & self.differ)
+    fn at(&self, _i: usize) -> u32 {
+        *self
     }
 }
 
-/// What pixels get by their bits; with STORES nothing looks at what stands there. Eight pixels are W words.
+impl Words for Tile {
+    #[inline(always)]
+    fn at(&self, i: usize) -> u32 {
+        self[i]
+    }
+}
+
+/// What pixels get by their bits; with STORES nothing looks at what stands there. Eight pixels are W words. Of the four values
+/// the first of each pair is for clear bits, and the second says where that for set ones differs.
 #[derive(Clone, Copy)]
-struct Painter<const W: usize, const STORES: bool> {
+struct Painter<V, const W: usize, const STORES: bool> {
     masks: &'static [[u32; W]; 256],
-    and: Choice,
-    xor: Choice,
+    and: [V; 2],
+    xor: [V; 2],
 }
 
-impl<const W: usize, const STORES: bool> Painter<W, STORES> {
+impl<V: Words, const W: usize, const STORES: bool> Painter<V, W, STORES> {
     #[inline(always)]
-    fn one(self, there: u32, mask: u32) -> u32 {
+    fn one(&self, i: usize, there: u32, mask: u32) -> u32 {
+        let by = |pair: &[V; 2]| pair[0].at(i) ^ (mask & pair[1].at(i));
         if STORES {
-            self.xor.by(mask)
+            by(&self.xor)
         } else {
-            (there & self.and.by(mask)) ^ self.xor.by(mask)
+            (there & by(&self.and)) ^ by(&self.xor)
         }
     }
 
     /// Eight pixels: all are read before one is written.
     #[inline(always)]
-    fn eight(self, block: &mut [u8], bits: u8) {
+    fn eight(&self, block: &mut [u8], bits: u8) {
         let masks = self.masks[bits as usize];
         let mut words = [0; W];
         for i in 0..W {
-            words[i] = self.one(get(&block[4 * i..4 * i + 4]), masks[i]);
+            words[i] = self.one(i, get(&block[4 * i..4 * i + 4]), masks[i]);
         }
         for i in 0..W {
             put(&mut block[4 * i..4 * i + 4], words[i]);
@@ -69,13 +72,15 @@ impl<const W: usize, const STORES: bool> Painter<W, STORES> {
 
     /// Fewer than eight.
     #[inline(always)]
-    fn last(self, block: &mut [u8], bits: u8) {
-        let masks = &self.masks[bits as usize];
-        let mask = masks[block.len() / 4 % W];
+    fn last(&self, block: &mut [u8], bits: u8) {
+        let masks = self.masks[bits as usize];
+        let end = block.len() / 4 % W;
         let mut words = block.chunks_exact_mut(4);
-        (&mut words).zip(masks).for_each(|(w, &mask)| put(w, self.one(get(w), mask)));
+        for (i, w) in (0..W).zip(&mut words) {
+            put(w, self.one(i, get(w), masks[i]));
+        }
         for (i, to) in words.into_remainder().iter_mut().enumerate().take(3) {
-            *to = (self.one((*to as u32) << (8 * i), mask) >> (8 * i)) as u8;
+            *to = (self.one(end, (*to as u32) << (8 * i), masks[end]) >> (8 * i)) as u8;
         }
     }
 
@@ -95,35 +100,45 @@ impl<const W: usize, const STORES: bool> Painter<W, STORES> {
         }
     }
 
-    fn rows(self, frame: &mut [u8], b: &Blt, font: Font, inks: Inks) {
+    /// Row j, if it lies apart from its font.
+    #[inline(always)]
+    fn draw(self, frame: &mut [u8], b: &Blt, font: Font, j: usize) -> bool {
         let n = b.width * W / 2;
+        let (from, to) = (font.rows.at(j), b.to.at(j));
+        if from + font.bytes <= to {
+            let (low, high) = frame.split_at_mut(to);
+            self.row(&mut high[..n], &low[from..from + font.bytes], font.skip);
+        } else if to + n <= from {
+            let (low, high) = frame.split_at_mut(from);
+            self.row(&mut low[to..to + n], &high[..font.bytes], font.skip);
+        } else {
+            return false;
+        }
+        true
+    }
+
+    /// All rows, by one painter.
+    fn draw_all(self, frame: &mut [u8], b: &Blt, font: Font, inks: Inks<Flat>) {
         for j in 0..b.height {
-            let (from, to) = (font.rows.at(j), b.to.at(j));
-            if from + font.bytes <= to {
-                let (low, high) = frame.split_at_mut(to);
-                self.row(&mut high[..n], &low[from..from + font.bytes], font.skip);
-            } else if to + n <= from {
-                let (low, high) = frame.split_at_mut(from);
-                self.row(&mut low[to..to + n], &high[..font.bytes], font.skip);
-            } else {
+            if !self.draw(frame, b, font, j) {
                 draw_in_order(frame, b, font, j, &FlatTile::solid(inks.clear), &FlatTile::solid(inks.set));
             }
         }
     }
 }
 
-fn draw_by<const W: usize>(masks: &'static [[u32; W]; 256], frame: &mut [u8], b: &Blt, font: Font, inks: Inks) {
-    let (clear, set) = (inks.clear, inks.set);
-    let (and, xor) = (Choice::new(clear.and, set.and), Choice::new(clear.xor, set.xor));
+fn draw_by<const W: usize>(masks: &'static [[u32; W]; 256], frame: &mut [u8], b: &Blt, font: Font, inks: Inks<Flat>) {
+    let Inks { clear, set } = inks;
+    let (and, xor) = ([clear.and, clear.and ^ set.and], [clear.xor, clear.xor ^ set.xor]);
     if clear.and | set.and == 0 {
-        Painter::<W, true> { masks, and, xor }.rows(frame, b, font, inks);
+        Painter::<u32, W, true> { masks, and, xor }.draw_all(frame, b, font, inks);
     } else {
-        Painter::<W, false> { masks, and, xor }.rows(frame, b, font, inks);
+        Painter::<u32, W, false> { masks, and, xor }.draw_all(frame, b, font, inks);
     }
 }
 
 /// All rows, with a solid pattern.
-pub fn draw(frame: &mut [u8], b: &Blt, font: Font, inks: Inks) {
+pub fn draw(frame: &mut [u8], b: &Blt, font: Font, inks: Inks<Flat>) {
     match b.depth {
         1 => draw_by(&MASKS_1, frame, b, font, inks),
         2 => draw_by(&MASKS_2, frame, b, font, inks),
@@ -131,8 +146,23 @@ pub fn draw(frame: &mut [u8], b: &Blt, font: Font, inks: Inks) {
     }
 }
 
+/// Row j, with a mono pattern.
+pub fn draw_mono(frame: &mut [u8], b: &Blt, font: Font, j: usize, inks: Inks<FlatTile>) {
+    let Inks { clear, set } = inks;
+    let differ = |x: Tile, y: Tile| std::array::from_fn(|i| x[i] ^ y[i]);
+    let (and, xor) = ([clear.and, differ(clear.and, set.and)], [clear.xor, differ(clear.xor, set.xor)]);
+    let drawn = match b.depth {
+        1 => Painter::<Tile, 2, false> { masks: &MASKS_1, and, xor }.draw(frame, b, font, j),
+        2 => Painter::<Tile, 4, false> { masks: &MASKS_2, and, xor }.draw(frame, b, font, j),
+        _ => Painter::<Tile, 8, false> { masks: &MASKS_4, and, xor }.draw(frame, b, font, j),
+    };
+    if !drawn {
+        draw_in_order(frame, b, font, j, &clear, &set);
+    }
+}
+
 /// Row j pixel by pixel, each bit read as memory then stands, with the operations of eight pixels that differ.
-pub fn draw_in_order(frame: &mut [u8], b: &Blt, font: Font, j: usize, clear: &FlatTile, set: &FlatTile) {
+fn draw_in_order(frame: &mut [u8], b: &Blt, font: Font, j: usize, clear: &FlatTile, set: &FlatTile) {
     let (from, to) = (font.rows.at(j), b.to.at(j));
     for i in 0..b.width {
         let bit = font.skip as usize + i;
