@@ -40,7 +40,7 @@ loop-less c = omega arith
 
 loop-again : tie.Need-loop-again Inv-loop μ-loop
 loop-again c =
-    change-next 1 (markRule (c .before .before .before .before .before .before .before .before .before .before .before .args .bits) (c .before .before .before .before .before .before .before .before .before .before .before .args .set .flip) (c .before .before .before .before .before .before .before .before .before .before .before .args .set .keep) (c .before .before .before .before .before .before .before .before .before .before .before .args .clear .flip) (c .before .before .before .before .before .before .before .before .before .before .before .args .clear .keep)) (c .before .before .before .before .before .before .before .before .before .before .before .args .at) {at = c .before .before .before .before .before .before .before .before .before .before .before .args .at + c .before .before .before .before .before .before .before .before .before .loop .i} (c .before .before .before .before .before .before .before .before .before .loop .inv) (c .before .before .before .before .before .before .before .before .loop-test .taken) (omega arith)
+    change-next 1 (markRule (c .before .before .before .before .before .before .before .before .before .before .before .args .bits) (c .before .before .before .before .before .before .before .before .before .before .before .args .set .flip) (c .before .before .before .before .before .before .before .before .before .before .before .args .set .keep) (c .before .before .before .before .before .before .before .before .before .before .before .args .clear .flip) (c .before .before .before .before .before .before .before .before .before .before .before .args .clear .keep)) (c .before .before .before .before .before .before .before .before .before .before .before .args .at) {at = c .before .before .before .before .before .before .before .before .before .before .before .args .at + c .before .before .before .before .before .before .before .before .before .loop .i} (c .before .before .before .before .before .before .before .before .before .loop .inv) (omega (arith, c .before .before .before .before .before .before .before .before .loop-test .taken)) (omega arith)
     (rw (← c .before .before .before .before .before .before .before .pick .ensures, ← c .before .before .before .before .before .before .pick2 .ensures, ← c .before .before .before .before .get1 .ensures) (c .before .before .put1 .ensures))
 
 same-length : tie.Need-same-length Inv-loop μ-loop
