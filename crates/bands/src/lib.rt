@@ -39,7 +39,8 @@ fn row_of(k: usize, width: usize) -> usize
     k / width
 }
 
-fn least(x: usize, y: usize) -> usize
+// x, but at most y.
+fn at_most(x: usize, y: usize) -> usize
     ensures { λ r. ⌜ (r ≤ x) × (r ≤ y) × (r < x → r ≡ y) × (0 < x → 0 < y → 0 < r) ⌝ }
 {
     if x < y {
@@ -62,7 +63,7 @@ pub fn fill(f: &mut [u8], b: Blt, color: u32, k: usize, n: usize)
     let mut j = row_of(k, width);
     let mut m = 0;
     while m < n {
-        let c = least(n - m, width - i);
+        let c = at_most(n - m, width - i);
         rows::fill(f, b, color, i, j, c);
         i = 0;
         j += 1;
@@ -82,7 +83,7 @@ pub fn blend(f: &mut [u8], b: Blt, color: u32, value: u32, k: usize, n: usize)
     let mut j = row_of(k, width);
     let mut m = 0;
     while m < n {
-        let c = least(n - m, width - i);
+        let c = at_most(n - m, width - i);
         rows::blend(f, b, color, value, i, j, c);
         i = 0;
         j += 1;
@@ -102,7 +103,7 @@ pub fn mono(f: &mut [u8], b: Blt, p: MonoPattern, value: u32, k: usize, n: usize
     let mut j = row_of(k, width);
     let mut m = 0;
     while m < n {
-        let c = least(n - m, width - i);
+        let c = at_most(n - m, width - i);
         rows::mono(f, b, p, value, i, j, c);
         i = 0;
         j += 1;
@@ -122,7 +123,7 @@ pub fn copy(f: &mut [u8], b: Blt, s: Rectangle, k: usize, n: usize)
     let mut j = row_of(k, width);
     let mut m = 0;
     while m < n {
-        let c = least(n - m, width - i);
+        let c = at_most(n - m, width - i);
         moves::copy(f, b, s, i, j, c);
         i = 0;
         j += 1;
@@ -142,7 +143,7 @@ pub fn combine(f: &mut [u8], b: Blt, color: u32, s: Rectangle, k: usize, n: usiz
     let mut j = row_of(k, width);
     let mut m = 0;
     while m < n {
-        let c = least(n - m, width - i);
+        let c = at_most(n - m, width - i);
         rows::solid_source(f, b, color, s, i, j, c);
         i = 0;
         j += 1;
@@ -162,7 +163,7 @@ pub fn bits(f: &mut [u8], b: Blt, color: u32, s: MonoSource, k: usize, n: usize)
     let mut j = row_of(k, width);
     let mut m = 0;
     while m < n {
-        let c = least(n - m, width - i);
+        let c = at_most(n - m, width - i);
         glyphs::bits(f, b, color, s, i, j, c);
         i = 0;
         j += 1;
@@ -182,7 +183,7 @@ pub fn general(f: &mut [u8], b: Blt, k: usize, n: usize)
     let mut j = row_of(k, width);
     let mut m = 0;
     while m < n {
-        let c = least(n - m, width - i);
+        let c = at_most(n - m, width - i);
         rows::general(f, b, i, j, c);
         i = 0;
         j += 1;
