@@ -10,7 +10,7 @@ ghost use Rattle.model.specs.Registers.{registerCount};
 ghost use Rattle.model.specs.Refusals.{first};
 ghost use Rattle.model.specs.Command.{returns, kindOf, badHeader, wordRegisters, commandLength, primitiveOf, drawnBy, badReturn, headerRules, wholeWords, readAfter, loaded};
 ghost use Rattle.model.specs.Choice.{if_then_else_};
-ghost use Rattle.model.specs.declared.Kind.the-variants.{Blt as BltKind};
+ghost use Rattle.model.specs.declared.Kind.the-variants.{Blt as BltKind, Vector as VectorKind};
 ghost use Rattle.command.specs.Look.{look};
 ghost use Rattle.command.specs.Pieces.{InPiece};
 use model::Drawn;
@@ -187,22 +187,24 @@ pub fn look(size: usize, read: usize, write: usize, header: u32) -> Seen
 
 // ---- loading
 
-// The registers of a vector's words, in order.
-const VECTOR: [usize; 13] = [
-    model::RASTER_MODE,
-    model::DST_OFFSET,
-    model::VEC_ERR,
-    model::STRIDE,
-    model::VEC_LEN,
-    model::SRC_COLOR_FG,
-    model::PAT_COLOR_0,
-    model::PAT_COLOR_1,
-    model::PAT_DATA_0,
-    model::PAT_DATA_1,
-    model::CH3_MODE_STR,
-    model::BASE_OFFSET,
-    model::VECTOR_MODE,
-];
+// The register of a vector's word i after the header: a vector has no word for SRC_COLOR_BG, nor for channel 3's offset and size.
+// An array of them all would be made anew for each word.
+fn vector_register(i: usize) -> usize
+    requires { ⌜ i < length (wordRegisters VectorKind) ⌝ }
+    ensures { λ r. ⌜ (r ≡ getD (wordRegisters VectorKind) i 0) × (r < registerCount) ⌝ }
+{
+    if i <= model::SRC_COLOR_FG {
+        return i;
+    }
+    if i < model::PAT_DATA_1 {
+        return i + 1;
+    }
+    match i {
+        10 => model::CH3_MODE_STR,
+        11 => model::BASE_OFFSET,
+        _ => model::VECTOR_MODE,
+    }
+}
 
 // The register of word i after the header: a BLT's words are the registers in their own order.
 fn register_of(kind: Kind, i: usize) -> usize
@@ -211,7 +213,7 @@ fn register_of(kind: Kind, i: usize) -> usize
 {
     match kind {
         Kind::Blt => i,
-        Kind::Vector => VECTOR[i],
+        Kind::Vector => vector_register(i),
     }
 }
 
