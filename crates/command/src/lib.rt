@@ -187,19 +187,22 @@ pub fn look(size: usize, read: usize, write: usize, header: u32) -> Seen
 
 // ---- loading
 
-// The register of a vector's word i after the header: a vector has no word for SRC_COLOR_BG, nor for channel 3's offset and size.
-// An array of them all would be made anew for each word.
+// The register of a vector's word i after the header. An array of them would be made anew for each word.
 fn vector_register(i: usize) -> usize
     requires { ⌜ i < length (wordRegisters VectorKind) ⌝ }
     ensures { λ r. ⌜ (r ≡ getD (wordRegisters VectorKind) i 0) × (r < registerCount) ⌝ }
 {
-    if i <= model::SRC_COLOR_FG {
-        return i;
-    }
-    if i < model::PAT_DATA_1 {
-        return i + 1;
-    }
     match i {
+        0 => model::RASTER_MODE,
+        1 => model::DST_OFFSET,
+        2 => model::VEC_ERR,
+        3 => model::STRIDE,
+        4 => model::VEC_LEN,
+        5 => model::SRC_COLOR_FG,
+        6 => model::PAT_COLOR_0,
+        7 => model::PAT_COLOR_1,
+        8 => model::PAT_DATA_0,
+        9 => model::PAT_DATA_1,
         10 => model::CH3_MODE_STR,
         11 => model::BASE_OFFSET,
         _ => model::VECTOR_MODE,
