@@ -55,7 +55,7 @@ store-store n (suc m) frame a v t w h =
 
 -- ---- rows of one rule for each pixel
 
-step-le : (depth m n : ℕ) → m < n → m * depth + depth ≤ n * depth
+pub step-le : (depth m n : ℕ) → m < n → m * depth + depth ≤ n * depth
 step-le depth m n l = omega (arith, suc-mul m depth, mul-le-mul-right depth l)
 
 -- a pixel of a row of so many bytes lies in it
@@ -118,6 +118,17 @@ module _ (depth : ℕ) (rule : ℕ → ℕ → ℕ) where
       (rw e (change-after (0 + m) (0 + (0 + m) * depth) xs l), tt)) (drop a frame) tt)
       ∙ ap (changedRow depth rule n a) (take-append-drop a frame)
 
+  -- what the row writer leaves, lent that part
+  pub written-part : 0 < depth → (n a : ℕ) (frame : List ℕ) {ys : List ℕ} → a + n * depth ≤ length frame
+      → let part = take (a + n * depth - a) (drop a frame) in
+      ys ≡ changedRow depth rule (length part / depth) 0 part
+      → take a frame ++ (ys ++ drop (a + n * depth - a) (drop a frame)) ≡ changedRow depth rule n a frame
+  written-part deep n a frame h written =
+      let e : a + n * depth - a ≡ n * depth = omega arith in
+      let d = length-drop a frame in
+      let t : length (take (n * depth) (drop a frame)) ≡ n * depth = length-take-le _ (drop a frame) (omega arith) in
+      rw (written, e, t, mul-div-cancel n deep) (changed-part n a frame h)
+
   -- pixels that share no byte may change places
   change-change : (m k a t : ℕ) (frame : List ℕ) → a + depth ≤ t
       → changed depth (rule m) a (changed depth (rule k) t frame) ≡ changed depth (rule k) t (changed depth (rule m) a frame)
@@ -126,7 +137,7 @@ module _ (depth : ℕ) (rule : ℕ → ℕ → ℕ) where
       let f = read-same depth (changed depth (rule m) a frame) frame t t (λ j l. store-above depth frame a _ (t + j) (omega arith)) in
       rw (e, f) (store-store depth depth frame a _ t _ h)
 
-  changed-down : (n a : ℕ) (frame : List ℕ) → inOrder (λ m. changedAt depth rule a (n - 1 - m)) 0 n frame ≡ changedRow depth rule n a frame
+  pub changed-down : (n a : ℕ) (frame : List ℕ) → inOrder (λ m. changedAt depth rule a (n - 1 - m)) 0 n frame ≡ changedRow depth rule n a frame
   changed-down n a =
       order-reverse (changedAt depth rule a) n
       (λ m k l p frame. change-change m k _ _ frame (omega (arith, step-le depth m k l)))
@@ -171,11 +182,7 @@ module _ {size : ℕ} {b : Blt} {i j n : ℕ} (r : Row size b i j n) (some : 0 <
       → let part = take (a + n * b .destination .depth - a) (drop a frame) in
       ys ≡ changedRow (b .destination .depth) rule (length part / b .destination .depth) 0 part
       → take a frame ++ (ys ++ drop (a + n * b .destination .depth - a) (drop a frame)) ≡ rowPixels b i j n frame
-  changes-part frame {ys} s bytes written =
+  changes-part frame s bytes written =
       let l = bytes-in (destination-span r some) low in
-      let e : a + n * b .destination .depth - a ≡ n * b .destination .depth = omega arith in
-      let d = length-drop a frame in
-      let t : length (take (n * b .destination .depth) (drop a frame)) ≡ n * b .destination .depth =
-      length-take-le _ (drop a frame) (omega arith) in
-      rw (written, e, t, mul-div-cancel n (depth-least (r .fit .destination-fit .ranged .deep)))
-      (changed-part (b .destination .depth) rule n a frame (omega arith) ∙ changes-row frame bytes)
+      written-part (b .destination .depth) rule (depth-least (r .fit .destination-fit .ranged .deep)) n a frame (omega arith) written
+      ∙ changes-row frame bytes

@@ -17,6 +17,8 @@ pub mod Extremes
 pub mod Rows
 pub mod Lows
 pub mod Changes
+pub mod Words
 pub mod Plain
 pub mod Moves
+pub mod Mixes
 pub mod Glyphs

@@ -1,6 +1,6 @@
 -- n pixels of one row of a rectangle, by their places from the lowest byte up: with X negative the last column lies lowest.
 use Prim.Native.Nat.{ℕ, suc, _+_, _-_, _*_, _^_, _≤_, _<_}
-use mathlib.Core.Path.{_≡_, refl}
+use mathlib.Core.Path.{_≡_, refl, sym}
 use mathlib.Core.Bool.{Bool, true, false}
 use native.Mathlib.Omega.{arith}
 use native.Mathlib.Nat.{suc-mul}
@@ -21,6 +21,10 @@ lowColumn negative i n = if negative then i + (n - 1) else i
 -- and the one at place x from there up
 abbrev pub columnAt : Bool → (i n x : ℕ) → ℕ
 columnAt negative i n x = if negative then i + (n - 1 - x) else i + x
+
+-- the place of the lowest of c of them, from number m on
+abbrev pub lowPlace : Bool → (n m c : ℕ) → ℕ
+lowPlace negative n m c = if negative then n - m - c else m
 
 -- the lowest byte of n pixels of row j, from column i
 abbrev pub lowByte : Rectangle → (i j n : ℕ) → ℕ
@@ -76,6 +80,18 @@ module _ {size : ℕ} {q : Rectangle} {i j n : ℕ} (s : Span size q i j n) wher
           let c : i + (n - 1 - x) + x ≡ i + (n - 1) = omega arith in
           omega (arith, rw c at (on-row (i + (n - 1 - x)) x (omega arith) true e))
       go false e = omega (arith, on-row i x (omega arith) false e)
+
+  -- the lowest byte of c of them, from number m on
+  pub low-part : {a : ℕ} → a ≡ lowByte q i j n → (m c : ℕ) → 0 < c → m + c ≤ n
+      → a + lowPlace (q .columns .negative) n m c * q .depth ≡ lowByte q (i + m) j c
+  low-part low m c z l =
+      let p = go (q .columns .negative) in
+      sym (rw (p .1) at (place-byte low (lowPlace (q .columns .negative) n m c) (p .0)))
+    where
+      go : (negative : Bool)
+          → (lowPlace negative n m c < n) × (columnAt negative i n (lowPlace negative n m c) ≡ lowColumn negative (i + m) c)
+      go true = (omega arith, omega arith)
+      go false = (omega arith, refl)
 
   -- their bytes
   pub bytes-in : {a : ℕ} → a ≡ lowByte q i j n → a + n * q .depth ≤ size

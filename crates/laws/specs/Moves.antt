@@ -140,7 +140,7 @@ Clear true from to n = Beside from to n
 Clear false from to n = Beside to from n
 
 -- of n pixels, the place from the lowest byte up of the one that is drawn after m others
-abbrev placeOf : Bool → (n m : ℕ) → ℕ
+abbrev pub placeOf : Bool → (n m : ℕ) → ℕ
 placeOf negative n m = if negative then n - 1 - m else m
 
 -- the pixel at place x, stored as it is read
@@ -215,7 +215,7 @@ place-at true i n m l = (omega arith, omega arith)
 place-at false i n m l = (l, refl)
 
 -- the byte of the pixel that is drawn after m others
-drawn-byte : {size : ℕ} {q : Rectangle} {i j n : ℕ} → Span size q i j n → {a : ℕ} → a ≡ lowByte q i j n → (m : ℕ) → m < n
+pub drawn-byte : {size : ℕ} {q : Rectangle} {i j n : ℕ} → Span size q i j n → {a : ℕ} → a ≡ lowByte q i j n → (m : ℕ) → m < n
     → pixelByte q (i + m) j ≡ a + placeOf (q .columns .negative) n m * q .depth
 drawn-byte {q = q} {i} {n = n} s low m l = let p = place-at (q .columns .negative) i n m l in rw (p .1) at (place-byte s low _ (p .0))
 

@@ -26,7 +26,7 @@ use Rattle.model.specs.declared.Source.the-variants.{Unselected, Frame, Bits}
 use Rattle.model.specs.declared.SourceValue.{SourceValue}
 use Rattle.model.specs.declared.SourceValue.the-variants.{Transparent, Value}
 use Rattle.laws.specs.Pixels.{length-store}
-use Rattle.laws.specs.Order.{inOrder, bltPixels, order-same, Remain, remain-all, remain-add}
+use Rattle.laws.specs.Order.{inOrder, bltPixels, order-same, order-length, Remain, remain-all, remain-add}
 use Rattle.laws.specs.Ranges.{Matches, FitBits, FitSource, FitBlt}
 use Rattle.laws.specs.Numbers.{row-lt, column-add, row-add, column-next, row-next}
 use Rattle.laws.specs.Extremes.{Reached, Within, within, byte-on, Along, along, along-at}
@@ -140,6 +140,9 @@ module _ (b : Blt) (i j : ℕ) (frame : List ℕ) {code at : ℕ} (c : code ≡ 
 abbrev pub rowPixels : Blt → (i j n : ℕ) → List ℕ → List ℕ
 rowPixels b i j n = inOrder (λ m. drawAt b m j) i n
 
+pub length-row : (b : Blt) (i j n : ℕ) (frame : List ℕ) → length (rowPixels b i j n frame) ≡ length frame
+length-row b i j n frame = order-length (λ m. drawAt b m j) (λ m. length-at b m j) n i frame
+
 -- n pixels from pixel k, where they are of one row
 pub row-pixels : (b : Blt) (k n : ℕ) (frame : List ℕ) → columnOf (b .destination) k + n ≤ b .destination .columns .count
     → rowPixels b (columnOf (b .destination) k) (rowOf (b .destination) k) n frame ≡ bltPixels b k n frame
@@ -159,6 +162,10 @@ pub record Row (size : ℕ) (b : Blt) (i j n : ℕ) : Type 0 where
   pub small : size ≤ frameMost
 
 module _ {size : ℕ} {b : Blt} {i j n : ℕ} (r : Row size b i j n) where
+  -- c of them from column x
+  pub row-within : {x c : ℕ} → x + c ≤ i + n → {now : ℕ} → now ≡ size → Row now b x j c
+  row-within l e = rw e (record { fit = r .fit; columns = omega (arith, r .columns); row = r .row; small = r .small })
+
   pub row-pixel : {x : ℕ} → x < i + n → {now : ℕ} → now ≡ size → PixelOf now b x j
   row-pixel l e = rw e (record { fit = r .fit; column = omega (arith, r .columns); row = r .row })
 
