@@ -144,7 +144,7 @@ pub fn combine(f: &mut [u8], b: Blt, color: u32, s: Rectangle, k: usize, n: usiz
     let mut m = 0;
     while m < n {
         let c = at_most(n - m, width - i);
-        rows::solid_source(f, b, color, s, i, j, c);
+        mixes::combine(f, b, color, s, i, j, c);
         i = 0;
         j += 1;
         m += c;

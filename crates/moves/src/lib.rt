@@ -12,7 +12,7 @@ use model::Rectangle;
 // ---- bytes
 
 // Lays n bytes of s, from `from` on, into t from `to` on.
-fn lay(s: &[u8], from: usize, t: &mut [u8], to: usize, n: usize)
+pub fn lay(s: &[u8], from: usize, t: &mut [u8], to: usize, n: usize)
     requires { ⌜ (from + n ≤ length (now s)) × (to + n ≤ length (now t)) ⌝ }
     ensures { λ _. ⌜ Laid (now (s .entry)) from to 0 n (now (t .entry)) (now (t .exit)) ⌝ }
 {
@@ -48,7 +48,7 @@ fn is_beside(x: usize, y: usize, n: usize) -> bool
 }
 
 // Whether a copy of n bytes meets none that it has overwritten.
-fn is_clear(negative: bool, from: usize, to: usize, n: usize) -> bool
+pub fn is_clear(negative: bool, from: usize, to: usize, n: usize) -> bool
     requires { ⌜ (from + n < 2 ^ 32) × (to + n < 2 ^ 32) ⌝ }
     ensures { λ r. ⌜ (r ≡ true → Clear negative from to n) ⌝ }
 {

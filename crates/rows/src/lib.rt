@@ -5,7 +5,6 @@ ghost use Prim.Native.Nat.{_^_, _<_};
 ghost use lib.ListN.{length};
 ghost use Rattle.model.specs.Pattern.{patternIndex};
 ghost use Rattle.model.specs.declared.Pattern.the-variants.{Solid, Mono};
-ghost use Rattle.model.specs.declared.Source.the-variants.{Frame};
 ghost use Rattle.laws.specs.Ranges.{FitPattern};
 ghost use Rattle.laws.specs.Patterns.{Turned};
 ghost use Rattle.laws.specs.Rows.{Row, rowPixels};
@@ -26,26 +25,6 @@ pub fn general(f: &mut [u8], b: Blt, i: usize, j: usize, n: usize)
         let o = operands::at(f, b, x, j);
         let at = rectangle::pixel_byte(d, x, j);
         operands::draw(f, d.depth, b.code, at, o);
-        m += 1;
-    }
-}
-
-// A solid pattern with a source in frame memory, whose columns are the destination's.
-pub fn solid_source(f: &mut [u8], b: Blt, color: u32, s: Rectangle, i: usize, j: usize, n: usize)
-    requires { ⌜ (Row (length (now f)) b i j n) × (0 < n) × (b .pattern ≡ Solid color) × (b .source ≡ Frame s) ⌝ }
-    ensures { λ _. ⌜ now (f .exit) ≡ rowPixels b i j n (now (f .entry)) ⌝ }
-{
-    let op = pixel::prepare(b.code, color);
-    let first = b.destination;
-    let to = rectangle::pixel_byte(first, i, j);
-    let from = rectangle::pixel_byte(s, i, j);
-    let mut m = 0;
-    while m < n {
-        let d = b.destination;
-        let columns = d.columns;
-        let source = pixel::get(d.depth, f, rectangle::along(columns, from, m));
-        let at = rectangle::along(columns, to, m);
-        pixel::paint(f, op, d.depth, at, source);
         m += 1;
     }
 }

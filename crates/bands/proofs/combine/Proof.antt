@@ -30,8 +30,8 @@ sub-at-most-2 c = omega (arith, c .before .loop .inv .narrow)
 at-most-requires : tie.Need-at-most-requires Inv-loop μ-loop
 at-most-requires c κs = search needs
 
-solid-source-requires : tie.Need-solid-source-requires Inv-loop μ-loop
-solid-source-requires c κs = (
+combine-requires : tie.Need-combine-requires Inv-loop μ-loop
+combine-requires c κs = (
   rows-part (c .before .before .before .loop .inv) (c .before .before .loop-test .taken) (c .before .at-most .ensures .1) (c .before .before .before .before .before .before .before .before .before .pre .0),
   c .before .at-most .ensures .3 (omega (arith, c .before .before .loop-test .taken)) (omega (arith, c .before .before .before .loop .inv .narrow)),
   c .before .before .before .before .before .before .before .before .before .pre .1,
@@ -49,7 +49,7 @@ loop-less : tie.Need-loop-less Inv-loop μ-loop
 loop-less c = omega (arith, c .before .before .before .before .at-most .ensures .0, c .before .before .before .before .at-most .ensures .3 (omega (arith, c .before .before .before .before .before .loop-test .taken)) (omega (arith, c .before .before .before .before .before .before .loop .inv .narrow)))
 
 loop-again : tie.Need-loop-again Inv-loop μ-loop
-loop-again c = rows-next (c .before .before .before .before .before .before .loop .inv) (c .before .before .before .before .before .loop-test .taken) (c .before .before .before .before .at-most .ensures .1) (c .before .before .before .before .at-most .ensures .0) (c .before .before .before .before .at-most .ensures .2) (c .before .before .solid-source .ensures)
+loop-again c = rows-next (c .before .before .before .before .before .before .loop .inv) (c .before .before .before .before .before .loop-test .taken) (c .before .before .before .before .at-most .ensures .1) (c .before .before .before .before .at-most .ensures .0) (c .before .before .before .before .at-most .ensures .2) (c .before .before .combine .ensures)
 
 same-length : tie.Need-same-length Inv-loop μ-loop
 same-length c = c .before .loop .inv .remain .same
@@ -69,7 +69,7 @@ combine-spec =
     sub-at-most
     sub-at-most-2
     at-most-requires
-    solid-source-requires
+    combine-requires
     add-j
     add-m
     loop-less
