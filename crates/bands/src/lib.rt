@@ -15,29 +15,7 @@ use model::MonoPattern;
 use model::MonoSource;
 use model::Rectangle;
 
-// ---- where a span begins, and how much of it is of one row
-
-// The column of pixel k, most often 0.
-fn column_of(k: usize, width: usize) -> usize
-    requires { ⌜ 0 < width ⌝ }
-    ensures { λ r. ⌜ r ≡ k % width ⌝ }
-{
-    if k == 0 {
-        return 0;
-    }
-    k % width
-}
-
-// Its row.
-fn row_of(k: usize, width: usize) -> usize
-    requires { ⌜ 0 < width ⌝ }
-    ensures { λ r. ⌜ r ≡ k / width ⌝ }
-{
-    if k == 0 {
-        return 0;
-    }
-    k / width
-}
+// ---- rows that a span may begin or end within
 
 // x, but at most y.
 fn at_most(x: usize, y: usize) -> usize
@@ -51,16 +29,16 @@ fn at_most(x: usize, y: usize) -> usize
 
 // ---- the kinds
 
-// A solid pattern under raster operation F0h, where one value serves as the source.
-pub fn fill(f: &mut [u8], b: Blt, color: u32, k: usize, n: usize)
+// The same row by row.
+fn fill_rows(f: &mut [u8], b: Blt, color: u32, k: usize, n: usize)
     requires { ⌜ (Band (length (now f)) b k n) × (b .pattern ≡ Solid color) × (b .code ≡ 240) × (Served (b .code) (b .source)) ⌝ }
     ensures { λ _. ⌜ now (f .exit) ≡ bltPixels b k n (now (f .entry)) ⌝ }
 {
     let d = b.destination;
     let columns = d.columns;
     let width = columns.count;
-    let mut i = column_of(k, width);
-    let mut j = row_of(k, width);
+    let mut i = rectangle::column_of(k, width);
+    let mut j = rectangle::row_of(k, width);
     let mut m = 0;
     while m < n {
         let c = at_most(n - m, width - i);
@@ -71,16 +49,27 @@ pub fn fill(f: &mut [u8], b: Blt, color: u32, k: usize, n: usize)
     }
 }
 
-// A solid pattern under any raster operation, where one value serves as the source.
-pub fn blend(f: &mut [u8], b: Blt, color: u32, value: u32, k: usize, n: usize)
+// A solid pattern under raster operation F0h, where one value serves as the source. Whole rows first.
+pub fn fill(f: &mut [u8], b: Blt, color: u32, k: usize, n: usize)
+    requires { ⌜ (Band (length (now f)) b k n) × (b .pattern ≡ Solid color) × (b .code ≡ 240) × (Served (b .code) (b .source)) ⌝ }
+    ensures { λ _. ⌜ now (f .exit) ≡ bltPixels b k n (now (f .entry)) ⌝ }
+{
+    let m = blocks::fill(f, b, color, k, n);
+    if m < n {
+        fill_rows(f, b, color, k + m, n - m);
+    }
+}
+
+// The same row by row.
+fn blend_rows(f: &mut [u8], b: Blt, color: u32, value: u32, k: usize, n: usize)
     requires { ⌜ (Band (length (now f)) b k n) × (b .pattern ≡ Solid color) × (Plain (b .code) (b .source) value) ⌝ }
     ensures { λ _. ⌜ now (f .exit) ≡ bltPixels b k n (now (f .entry)) ⌝ }
 {
     let d = b.destination;
     let columns = d.columns;
     let width = columns.count;
-    let mut i = column_of(k, width);
-    let mut j = row_of(k, width);
+    let mut i = rectangle::column_of(k, width);
+    let mut j = rectangle::row_of(k, width);
     let mut m = 0;
     while m < n {
         let c = at_most(n - m, width - i);
@@ -88,6 +77,17 @@ pub fn blend(f: &mut [u8], b: Blt, color: u32, value: u32, k: usize, n: usize)
         i = 0;
         j += 1;
         m += c;
+    }
+}
+
+// A solid pattern under any raster operation, where one value serves as the source. Whole rows first.
+pub fn blend(f: &mut [u8], b: Blt, color: u32, value: u32, k: usize, n: usize)
+    requires { ⌜ (Band (length (now f)) b k n) × (b .pattern ≡ Solid color) × (Plain (b .code) (b .source) value) ⌝ }
+    ensures { λ _. ⌜ now (f .exit) ≡ bltPixels b k n (now (f .entry)) ⌝ }
+{
+    let m = blocks::blend(f, b, color, value, k, n);
+    if m < n {
+        blend_rows(f, b, color, value, k + m, n - m);
     }
 }
 
@@ -99,8 +99,8 @@ pub fn mono(f: &mut [u8], b: Blt, p: MonoPattern, value: u32, k: usize, n: usize
     let d = b.destination;
     let columns = d.columns;
     let width = columns.count;
-    let mut i = column_of(k, width);
-    let mut j = row_of(k, width);
+    let mut i = rectangle::column_of(k, width);
+    let mut j = rectangle::row_of(k, width);
     let mut m = 0;
     while m < n {
         let c = at_most(n - m, width - i);
@@ -111,16 +111,16 @@ pub fn mono(f: &mut [u8], b: Blt, p: MonoPattern, value: u32, k: usize, n: usize
     }
 }
 
-// A source in frame memory under raster operation CCh, with a pattern that gives every pixel a value.
-pub fn copy(f: &mut [u8], b: Blt, s: Rectangle, k: usize, n: usize)
+// The same row by row.
+fn copy_rows(f: &mut [u8], b: Blt, s: Rectangle, k: usize, n: usize)
     requires { ⌜ (Band (length (now f)) b k n) × (b .source ≡ Frame s) × (b .code ≡ 204) × (isFull (b .pattern) ≡ true) ⌝ }
     ensures { λ _. ⌜ now (f .exit) ≡ bltPixels b k n (now (f .entry)) ⌝ }
 {
     let d = b.destination;
     let columns = d.columns;
     let width = columns.count;
-    let mut i = column_of(k, width);
-    let mut j = row_of(k, width);
+    let mut i = rectangle::column_of(k, width);
+    let mut j = rectangle::row_of(k, width);
     let mut m = 0;
     while m < n {
         let c = at_most(n - m, width - i);
@@ -128,6 +128,17 @@ pub fn copy(f: &mut [u8], b: Blt, s: Rectangle, k: usize, n: usize)
         i = 0;
         j += 1;
         m += c;
+    }
+}
+
+// A source in frame memory under raster operation CCh, with a pattern that gives every pixel a value. Whole rows first.
+pub fn copy(f: &mut [u8], b: Blt, s: Rectangle, k: usize, n: usize)
+    requires { ⌜ (Band (length (now f)) b k n) × (b .source ≡ Frame s) × (b .code ≡ 204) × (isFull (b .pattern) ≡ true) ⌝ }
+    ensures { λ _. ⌜ now (f .exit) ≡ bltPixels b k n (now (f .entry)) ⌝ }
+{
+    let m = blocks::copy(f, b, s, k, n);
+    if m < n {
+        copy_rows(f, b, s, k + m, n - m);
     }
 }
 
@@ -139,8 +150,8 @@ pub fn combine(f: &mut [u8], b: Blt, color: u32, s: Rectangle, k: usize, n: usiz
     let d = b.destination;
     let columns = d.columns;
     let width = columns.count;
-    let mut i = column_of(k, width);
-    let mut j = row_of(k, width);
+    let mut i = rectangle::column_of(k, width);
+    let mut j = rectangle::row_of(k, width);
     let mut m = 0;
     while m < n {
         let c = at_most(n - m, width - i);
@@ -159,8 +170,8 @@ pub fn bits(f: &mut [u8], b: Blt, color: u32, s: MonoSource, k: usize, n: usize)
     let d = b.destination;
     let columns = d.columns;
     let width = columns.count;
-    let mut i = column_of(k, width);
-    let mut j = row_of(k, width);
+    let mut i = rectangle::column_of(k, width);
+    let mut j = rectangle::row_of(k, width);
     let mut m = 0;
     while m < n {
         let c = at_most(n - m, width - i);
@@ -179,8 +190,8 @@ pub fn general(f: &mut [u8], b: Blt, k: usize, n: usize)
     let d = b.destination;
     let columns = d.columns;
     let width = columns.count;
-    let mut i = column_of(k, width);
-    let mut j = row_of(k, width);
+    let mut i = rectangle::column_of(k, width);
+    let mut j = rectangle::row_of(k, width);
     let mut m = 0;
     while m < n {
         let c = at_most(n - m, width - i);

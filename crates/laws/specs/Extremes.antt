@@ -237,6 +237,29 @@ byte-on {r} columns {i} {j} m x y =
     (λ e. let p = rw e at (x .low) in let q = rw e at (y .low) in rw e (omega arith))
     (true-or-false (r .columns .negative)))
 
+-- m rows on in the same column
+row-on : {r : Rectangle} {i j : ℕ} (m : ℕ) → Reached r i j → Reached r i (j + m)
+    → pixelByte r i (j + m) + behind (r .rows) m ≡ pixelByte r i j + ahead (r .rows) m
+unfolding pixelByte
+row-on {r} {i} {j} m x y =
+    let s = add-mul j m (r .rows .step) in
+    ⊎-elim
+    (λ e. let p = rw e at (x .low) in let q = rw e at (y .low) in rw e (omega arith))
+    (λ e. let p = rw e at (x .low) in let q = rw e at (y .low) in rw e (omega arith))
+    (true-or-false (r .rows .negative))
+
+-- one step along an axis leads from byte `at` to byte `next`, unless it leads below byte 0
+pub record Follows (a : Axis) (at next : ℕ) : Type 0 where
+  pub leads : behind a 1 ≤ at + ahead a 1 → next + behind a 1 ≡ at + ahead a 1
+
+-- so to the same column of the next row
+pub follows-row : {r : Rectangle} {i j : ℕ} → Reached r i j → Reached r i (j + 1) → {at next : ℕ} → at ≡ pixelByte r i j
+    → Follows (r .rows) at next → (next ≡ pixelByte r i (j + 1)) × (next + behind (r .rows) 1 ≡ at + ahead (r .rows) 1)
+follows-row x y e f =
+    let on = row-on 1 x y in
+    let g = f .leads (omega arith) in
+    (omega arith, g)
+
 -- a walk of m steps along an axis from byte `start` whose sums fit
 pub record Along (a : Axis) (start m : ℕ) : Type 0 where
   pub near : start < 2 ^ 32

@@ -18,6 +18,7 @@ pub mod Rows
 pub mod Lows
 pub mod Changes
 pub mod Words
+pub mod Wholes
 pub mod Plain
 pub mod Moves
 pub mod Mixes

@@ -4,14 +4,15 @@ use mathlib.Core.Path.{_≡_, refl, sym}
 use mathlib.Core.Bool.{Bool, true, false}
 use native.Mathlib.Omega.{arith}
 use native.Mathlib.Nat.{suc-mul}
+use Rattle.model.specs.Limits.{frameMost}
 use Rattle.model.specs.Choice.{if_then_else_}
 use Rattle.model.specs.Bounds.{added, taken}
-use Rattle.model.specs.Rectangle.{pixelByte}
+use Rattle.model.specs.Rectangle.{ahead, behind, pixelByte}
 use Rattle.model.specs.declared.Blt.{Blt}
 use Rattle.model.specs.declared.Rectangle.{Rectangle}
 use Rattle.model.specs.declared.Source.the-variants.{Frame}
 use Rattle.laws.specs.Ranges.{InFrame}
-use Rattle.laws.specs.Extremes.{Reached, Within, within, byte-on}
+use Rattle.laws.specs.Extremes.{Reached, Within, within, byte-on, Follows, follows-row}
 use Rattle.laws.specs.Rows.{Row}
 
 -- of n columns from column i, the one that lies lowest
@@ -103,3 +104,14 @@ module _ {size : ℕ} {q : Rectangle} {i j n : ℕ} (s : Span size q i j n) wher
       last : (negative : Bool) → pixelByte q (columnAt negative i n (n - 1)) j + q .depth ≤ size
       last true = span-within {x = i + (n - 1 - (n - 1))} (omega (arith, s .some)) .bytes-in
       last false = span-within {x = i + (n - 1)} (omega (arith, s .some)) .bytes-in
+
+  -- the lowest byte of as many in the next row
+  pub low-on : Span size q i (j + 1) n → {at next : ℕ} → at ≡ lowByte q i j n → Follows (q .rows) at next
+      → (next ≡ lowByte q i (j + 1) n) × (next + behind (q .rows) 1 ≡ at + ahead (q .rows) 1)
+  low-on t =
+      let low = lowColumn (q .columns .negative) i n in
+      follows-row low-reached (within (t .fit) {i = low} (omega (arith, low-in (q .columns .negative), t .columns)) (t .row) .reached)
+
+  -- what the code that goes on to that row asks
+  pub on-asked : size ≤ frameMost → {at : ℕ} → at ≡ lowByte q i j n → (at < 2 ^ 32) × (q .rows .step < 2 ^ 32)
+  on-asked small low = (omega (arith, bytes-in low), omega (arith, s .fit .ranged .stride-most))

@@ -25,7 +25,7 @@ use Rattle.laws.specs.Rows.{Row, rowPixels, value-drawn, row-within}
 use Rattle.laws.specs.Lows.{lowByte, lowPlace, destination-span, source-span, low-part}
 use Rattle.laws.specs.Changes.{changed, changedAt, changedRow, changed-down, step-le, written-part}
 use Rattle.laws.specs.Words.{mixRule, repeated, raster-repeated, word-row}
-use Rattle.laws.specs.Moves.{Clear, Laid, placeOf, drawn-byte, copy-bytes}
+use Rattle.laws.specs.Moves.{Clear, clear-on, Laid, placeOf, drawn-byte, copy-bytes}
 
 -- ---- bytes that are not yet overwritten
 
@@ -109,11 +109,6 @@ mix-part {depth} deep code color n {frame} {block = block} laid to l written =
 
 -- ---- rows of a BLT
 
--- what is clear is clear x bytes on
-clear-on : (negative : Bool) (from to n : ℕ) → Clear negative from to n → (x : ℕ) → Clear negative (from + x) (to + x) n
-clear-on true from to n clear x = ⊎-elim (λ h. inl (omega arith)) (λ h. inr (omega arith)) clear
-clear-on false from to n clear x = ⊎-elim (λ h. inl (omega arith)) (λ h. inr (omega arith)) clear
-
 -- a solid pattern with a source in frame memory: the code and the colour are ready, the colour as often as it goes into a word
 pub record Ready (b : Blt) (s : Rectangle) (code pattern : ℕ) : Type 0 where
   pub color : ℕ
@@ -182,4 +177,4 @@ module _ {size : ℕ} {b : Blt} {i j n : ℕ} (r : Row size b i j n) (some : 0 <
   pub piece-drawn : Clear (b .destination .columns .negative) from to 16 → (frame : List ℕ) → Bytes frame
       → changedRow 4 (mixRule 4 code pattern frame (from + x)) 4 (to + x) frame ≡ rowPixels b (i + m) j c frame
   piece-drawn clear frame bytes =
-      word-pixels part z y part-from part-to frame bytes e (clear-on (b .destination .columns .negative) from to 16 clear x)
+      word-pixels part z y part-from part-to frame bytes e (clear-on (b .destination .columns .negative) from to 16 x 0 (from + x) (to + x) (omega arith) (omega arith) clear)

@@ -139,6 +139,12 @@ abbrev pub Clear : Bool → (from to n : ℕ) → Type 0
 Clear true from to n = Beside from to n
 Clear false from to n = Beside to from n
 
+-- what is clear is clear where both lie as many bytes further or back
+pub clear-on : (negative : Bool) (from to n x y from' to' : ℕ) → from' + y ≡ from + x → to' + y ≡ to + x
+    → Clear negative from to n → Clear negative from' to' n
+clear-on true from to n x y from' to' p q clear = ⊎-elim (λ h. inl (omega arith)) (λ h. inr (omega arith)) clear
+clear-on false from to n x y from' to' p q clear = ⊎-elim (λ h. inl (omega arith)) (λ h. inr (omega arith)) clear
+
 -- of n pixels, the place from the lowest byte up of the one that is drawn after m others
 abbrev pub placeOf : Bool → (n m : ℕ) → ℕ
 placeOf negative n m = if negative then n - 1 - m else m

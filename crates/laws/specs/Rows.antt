@@ -227,6 +227,11 @@ pub record Band (size : ℕ) (b : Blt) (k n : ℕ) : Type 0 where
   pub inside : k + n ≤ pixelsOf (b .destination)
   pub small : size ≤ frameMost
 
+-- those that remain to draw after m of them
+pub band-rest : {b : Blt} {k n : ℕ} {first : List ℕ} → Band (length first) b k n → {m : ℕ} {frame : List ℕ}
+    → Remain (drawBlt b) k n first m frame → Band (length frame) b (k + m) (n - m)
+band-rest a r = rw (r .same) (record { fit = a .fit; inside = omega (arith, a .inside, r .drawn); small = a .small })
+
 -- in the middle: m of n pixels from pixel k are drawn, and column i of row j is next
 pub record ByRows (b : Blt) (k n : ℕ) (first : List ℕ) (i j m : ℕ) (frame : List ℕ) : Type 0 where
   pub remain : Remain (drawBlt b) k n first m frame

@@ -4,6 +4,7 @@ ghost use mathlib.Core.Bool.{true};
 ghost use Prim.Native.Nat.{_+_, _*_, _^_, _≤_, _<_};
 ghost use lib.ListN.{length};
 ghost use Rattle.laws.specs.Rows.{Row, rowPixels};
+ghost use Rattle.laws.specs.Lows.{lowByte};
 ghost use Rattle.model.specs.declared.Source.the-variants.{Frame};
 ghost use Rattle.laws.specs.Moves.{moved, Laid, Beside, Clear, isFull};
 use model::Blt;
@@ -61,7 +62,7 @@ pub fn is_clear(negative: bool, from: usize, to: usize, n: usize) -> bool
 // ---- rows
 
 // The bytes of n pixels.
-fn bytes_of(depth: usize, n: usize) -> usize
+pub fn bytes_of(depth: usize, n: usize) -> usize
     requires { ⌜ n * depth < 2 ^ 32 ⌝ }
     ensures { λ r. ⌜ r ≡ n * depth ⌝ }
 {
@@ -87,6 +88,25 @@ fn smear(f: &mut [u8], b: Blt, s: Rectangle, i: usize, j: usize, n: usize)
     }
 }
 
+// Copies them by one move, where it meets no byte that it has overwritten: `from` and `to` are the lowest bytes of the source and
+// of the row.
+pub fn copy_at(
+    f: &mut [u8],
+    b: Blt,
+    s: Rectangle,
+    from: usize,
+    to: usize,
+    i: usize,
+    j: usize,
+    n: usize,
+)
+    requires { ⌜ (Row (length (now f)) b i j n) × (0 < n) × (b .source ≡ Frame s) × (b .code ≡ 204) × (isFull (b .pattern) ≡ true) × (from ≡ lowByte s i j n) × (to ≡ lowByte (b .destination) i j n) × (Clear (b .destination .columns .negative) from to (n * b .destination .depth)) ⌝ }
+    ensures { λ _. ⌜ now (f .exit) ≡ rowPixels b i j n (now (f .entry)) ⌝ }
+{
+    let d = b.destination;
+    move_bytes(f, from, to, bytes_of(d.depth, n));
+}
+
 // Copies them by one move where it can, under raster operation CCh and a pattern that gives every pixel a value.
 pub fn copy(f: &mut [u8], b: Blt, s: Rectangle, i: usize, j: usize, n: usize)
     requires { ⌜ (Row (length (now f)) b i j n) × (0 < n) × (b .source ≡ Frame s) × (b .code ≡ 204) × (isFull (b .pattern) ≡ true) ⌝ }
@@ -96,10 +116,9 @@ pub fn copy(f: &mut [u8], b: Blt, s: Rectangle, i: usize, j: usize, n: usize)
     let columns = d.columns;
     let from = rectangle::low_byte(s, i, j, n);
     let to = rectangle::low_byte(d, i, j, n);
-    let size = bytes_of(d.depth, n);
-    let clear = is_clear(columns.negative, from, to, size);
+    let clear = is_clear(columns.negative, from, to, bytes_of(d.depth, n));
     if clear {
-        move_bytes(f, from, to, size);
+        copy_at(f, b, s, from, to, i, j, n);
         return;
     }
     smear(f, b, s, i, j, n);

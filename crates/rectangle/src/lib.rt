@@ -1,10 +1,10 @@
 // A rectangle of pixels in frame memory: where its pixels lie.
 ghost use mathlib.Core.Path.{_≡_};
-ghost use Prim.Native.Nat.{_+_, _-_, _^_, _≤_, _<_};
+ghost use Prim.Native.Nat.{_+_, _-_, _/_, _%_, _^_, _≤_, _<_};
 ghost use Rattle.model.specs.Bounds.{added, taken};
 ghost use Rattle.model.specs.Rectangle.{ahead, behind, pixelByte, rectangleExtent};
 ghost use Rattle.laws.specs.Ranges.{Ranged};
-ghost use Rattle.laws.specs.Extremes.{Reached, Along};
+ghost use Rattle.laws.specs.Extremes.{Reached, Along, Follows};
 ghost use Rattle.laws.specs.Lows.{lowColumn, lowByte};
 use model::Axis;
 use model::Extent;
@@ -80,6 +80,43 @@ pub fn along(a: Axis, start: usize, m: usize) -> usize
 {
     let n = m * a.step;
     start + further(a.negative, n) - back(a.negative, n)
+}
+
+// The byte one step along it from byte `at`. Where that would lie below byte 0 there is none, and any number will do.
+pub fn next(a: Axis, at: usize) -> usize
+    requires { ⌜ (at < 2 ^ 32) × (a .step < 2 ^ 32) ⌝ }
+    ensures { λ r. ⌜ Follows a at r ⌝ }
+{
+    let negative = a.negative;
+    if negative {
+        if at < a.step {
+            return 0;
+        }
+        return at - a.step;
+    }
+    at + a.step
+}
+
+// The column of pixel k, most often 0.
+pub fn column_of(k: usize, width: usize) -> usize
+    requires { ⌜ 0 < width ⌝ }
+    ensures { λ r. ⌜ r ≡ k % width ⌝ }
+{
+    if k == 0 {
+        return 0;
+    }
+    k % width
+}
+
+// Its row.
+pub fn row_of(k: usize, width: usize) -> usize
+    requires { ⌜ 0 < width ⌝ }
+    ensures { λ r. ⌜ r ≡ k / width ⌝ }
+{
+    if k == 0 {
+        return 0;
+    }
+    k / width
 }
 
 // The lowest of n columns from column i.

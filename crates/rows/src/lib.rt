@@ -8,10 +8,14 @@ ghost use Rattle.model.specs.declared.Pattern.the-variants.{Solid, Mono};
 ghost use Rattle.laws.specs.Ranges.{FitPattern};
 ghost use Rattle.laws.specs.Patterns.{Turned};
 ghost use Rattle.laws.specs.Rows.{Row, rowPixels};
+ghost use Rattle.laws.specs.Lows.{lowByte};
+ghost use Rattle.laws.specs.Whole.{blended};
+ghost use Rattle.laws.specs.Changes.{Changes};
 ghost use Rattle.laws.specs.Plain.{Plain, Served};
 use model::Blt;
 use model::MonoPattern;
 use model::Rectangle;
+use pixel::Blend;
 
 // Any source and pattern.
 pub fn general(f: &mut [u8], b: Blt, i: usize, j: usize, n: usize)
@@ -31,15 +35,33 @@ pub fn general(f: &mut [u8], b: Blt, i: usize, j: usize, n: usize)
 
 // ---- rows for which one value serves as the source of every pixel: their bytes are lent to a row writer
 
+// The row whose lowest byte is a, where every pixel gets one value.
+pub fn fill_at(f: &mut [u8], b: Blt, value: u32, a: usize, i: usize, j: usize, n: usize)
+    requires { ⌜ (Row (length (now f)) b i j n) × (0 < n) × (Changes b i j n (λ m old. value)) × (a ≡ lowByte (b .destination) i j n) ⌝ }
+    ensures { λ _. ⌜ now (f .exit) ≡ rowPixels b i j n (now (f .entry)) ⌝ }
+{
+    let d = b.destination;
+    let e = a + n * d.depth;
+    writers::fill(&mut f[a..e], d.depth, value);
+}
+
 // A solid pattern under raster operation F0h.
 pub fn fill(f: &mut [u8], b: Blt, color: u32, i: usize, j: usize, n: usize)
     requires { ⌜ (Row (length (now f)) b i j n) × (0 < n) × (b .pattern ≡ Solid color) × (b .code ≡ 240) × (Served (b .code) (b .source)) ⌝ }
     ensures { λ _. ⌜ now (f .exit) ≡ rowPixels b i j n (now (f .entry)) ⌝ }
 {
+    let a = rectangle::low_byte(b.destination, i, j, n);
+    fill_at(f, b, color, a, i, j, n);
+}
+
+// The row whose lowest byte is a, where every pixel is blended alike.
+pub fn blend_at(f: &mut [u8], b: Blt, v: Blend, a: usize, i: usize, j: usize, n: usize)
+    requires { ⌜ (Row (length (now f)) b i j n) × (0 < n) × (Changes b i j n (λ m. blended (v .flip) (v .keep))) × (a ≡ lowByte (b .destination) i j n) ⌝ }
+    ensures { λ _. ⌜ now (f .exit) ≡ rowPixels b i j n (now (f .entry)) ⌝ }
+{
     let d = b.destination;
-    let a = rectangle::low_byte(d, i, j, n);
     let e = a + n * d.depth;
-    writers::fill(&mut f[a..e], d.depth, color);
+    writers::blend(&mut f[a..e], d.depth, v);
 }
 
 // A solid pattern under any raster operation.
@@ -48,10 +70,8 @@ pub fn blend(f: &mut [u8], b: Blt, color: u32, value: u32, i: usize, j: usize, n
     ensures { λ _. ⌜ now (f .exit) ≡ rowPixels b i j n (now (f .entry)) ⌝ }
 {
     let v = pixel::blend_of(b.code, color, value);
-    let d = b.destination;
-    let a = rectangle::low_byte(d, i, j, n);
-    let e = a + n * d.depth;
-    writers::blend(&mut f[a..e], d.depth, v);
+    let a = rectangle::low_byte(b.destination, i, j, n);
+    blend_at(f, b, v, a, i, j, n);
 }
 
 // The bits of a mono pattern for row j, those of column i first.

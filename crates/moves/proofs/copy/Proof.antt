@@ -1,7 +1,6 @@
-use mathlib.Core.Path.{refl, _∙_}
 use native.Mathlib.Omega.{arith}
 use Rattle.laws.specs.Lows.{destination-span, source-span, low-asked}
-use Rattle.laws.specs.Moves.{row-most, copy-bytes, copy-row}
+use Rattle.laws.specs.Moves.{row-most, copy-bytes}
 use borrow.Author.Needs.{needs}
 use Rattle.moves.proofs.copy.Statement.{statement}
 use Rattle.moves.proofs.copy.Tie as tie
@@ -19,19 +18,23 @@ is-clear-requires : tie.Need-is-clear-requires
 is-clear-requires c κs =
     omega (arith, copy-bytes (c .before .before .before .before .before .before .pre .0) (c .before .before .before .before .before .before .pre .1) (c .before .before .before .before .before .before .pre .2) (c .before .before .low-byte .ensures) (c .before .low-byte2 .ensures), c .before .before .before .before .before .before .pre .0 .small)
 
-move-bytes-requires : tie.Need-move-bytes-requires
-move-bytes-requires c κs =
-    omega (arith, row-most (c .before .before .before .before .before .before .before .before .before .pre .0), copy-bytes (c .before .before .before .before .before .before .before .before .before .pre .0) (c .before .before .before .before .before .before .before .before .before .pre .1) (c .before .before .before .before .before .before .before .before .before .pre .2) (c .before .before .before .before .before .low-byte .ensures) (c .before .before .before .before .low-byte2 .ensures))
+copy-at-requires : tie.Need-copy-at-requires
+copy-at-requires c κs = (
+  c .before .before .before .before .before .before .before .before .before .pre .0,
+  c .before .before .before .before .before .before .before .before .before .pre .1,
+  c .before .before .before .before .before .before .before .before .before .pre .2,
+  c .before .before .before .before .before .before .before .before .before .pre .3,
+  c .before .before .before .before .before .before .before .before .before .pre .4,
+  c .before .before .before .before .before .low-byte .ensures,
+  c .before .before .before .before .low-byte2 .ensures,
+  rw (← c .before .before .before .bytes-of .ensures) (c .before .before .is-clear .ensures (c .before .if1 .taken)),
+)
 
 same-length : tie.Need-same-length
 same-length c = search needs
 
 returns : tie.Need-returns
-returns c =
-    c .before .before .move-bytes .ensures
-    ∙ rw (c .before .before .before .before .before .before .bytes-of .ensures)
-    (copy-row (c .before .before .before .before .before .before .before .before .before .before .before .before .pre .0) (c .before .before .before .before .before .before .before .before .before .before .before .before .pre .1) (c .before .before .before .before .before .before .before .before .before .before .before .before .pre .2) (c .before .before .before .before .before .before .before .before .low-byte .ensures) (c .before .before .before .before .before .before .before .low-byte2 .ensures) (c .before .before .before .before .before .before .before .before .before .before .before .before .pre .3) (c .before .before .before .before .before .before .before .before .before .before .before .before .pre .4) _ refl
-    (rw (← c .before .before .before .before .before .before .bytes-of .ensures) (c .before .before .before .before .before .is-clear .ensures (c .before .before .before .before .if1 .taken))) (λ x. c .before .before .before .before .before .before .before .before .before .before .before .slice-known .given x .fits))
+returns c = search needs
 
 smear-requires : tie.Need-smear-requires
 smear-requires c κs = search needs
@@ -50,7 +53,7 @@ copy-spec =
     low-byte-requires-2
     bytes-of-requires
     is-clear-requires
-    move-bytes-requires
+    copy-at-requires
     same-length
     returns
     smear-requires

@@ -1,51 +1,20 @@
-use mathlib.Core.Path.{refl}
-use native.Mathlib.Omega.{arith}
-use Rattle.laws.specs.Lows.{destination-span, low-reached, bytes-in}
-use Rattle.laws.specs.Changes.{changes-part}
+use Rattle.laws.specs.Lows.{destination-span, low-asked}
 use Rattle.laws.specs.Plain.{fill-changes}
 use borrow.Author.Needs.{needs}
 use Rattle.rows.proofs.fill.Statement.{statement}
 use Rattle.rows.proofs.fill.Tie as tie
 
 low-byte-requires : tie.Need-low-byte-requires
-low-byte-requires c κs =
-    (c .before .before .pre .1, omega (arith, c .before .before .pre .0 .columns, c .before .before .pre .0 .fit .destination-fit .ranged .wide-most), low-reached (destination-span (c .before .before .pre .0) (c .before .before .pre .1)))
+low-byte-requires c κs = low-asked (destination-span (c .before .pre .0) (c .before .pre .1))
 
-mul-e : tie.Need-mul-e
-mul-e c = omega (arith, bytes-in (destination-span (c .before .before .before .before .pre .0) (c .before .before .before .before .pre .1)) (c .before .low-byte .ensures), c .before .before .before .before .pre .0 .small)
-
-add-e : tie.Need-add-e
-add-e c = omega (arith, bytes-in (destination-span (c .before .before .before .before .pre .0) (c .before .before .before .before .pre .1)) (c .before .low-byte .ensures), c .before .before .before .before .pre .0 .small)
-
-sub-fill : tie.Need-sub-fill
-sub-fill c = search needs
-
-part-fill-start : tie.Need-part-fill-start
-part-fill-start c = search needs
-
-part-fill-end : tie.Need-part-fill-end
-part-fill-end c = bytes-in (destination-span (c .before .before .before .before .pre .0) (c .before .before .before .before .pre .1)) (c .before .low-byte .ensures)
-
-fill-requires : tie.Need-fill-requires
-fill-requires c κs = search needs
+fill-at-requires : tie.Need-fill-at-requires
+fill-at-requires c κs = (c .before .before .before .pre .0, c .before .before .before .pre .1, fill-changes (c .before .before .before .args .b) (c .before .before .before .pre .4 .1) (c .before .before .before .pre .2) _ _ _ (c .before .before .before .pre .3), c .before .low-byte .ensures)
 
 same-length : tie.Need-same-length
 same-length c = search needs
 
 returns : tie.Need-returns
-returns c =
-    changes-part (c .before .before .before .before .before .before .before .before .pre .0) (c .before .before .before .before .before .before .before .before .pre .1) (fill-changes (c .before .before .before .before .before .before .before .before .args .b) (c .before .before .before .before .before .before .before .before .pre .4 .1) (c .before .before .before .before .before .before .before .before .pre .2) _ _ _ (c .before .before .before .before .before .before .before .before .pre .3)) (c .before .before .before .before .before .low-byte .ensures) _ refl (λ i. c .before .before .before .before .before .before .before .slice-known .given i .fits) (c .before .before .fill .ensures)
+returns c = search needs
 
 pub fill-spec : {M : Type 1} → statement M
-fill-spec =
-    tie.close
-    (tie.spec
-    low-byte-requires
-    mul-e
-    add-e
-    sub-fill
-    part-fill-start
-    part-fill-end
-    fill-requires
-    same-length
-    returns)
+fill-spec = tie.close (tie.spec low-byte-requires fill-at-requires same-length returns)

@@ -1,7 +1,7 @@
 use borrow.Author.Needs.{needs}
 use native.Mathlib.Nat.{zero-mod}
-use Rattle.bands.proofs.column_of.Statement.{statement}
-use Rattle.bands.proofs.column_of.Tie as tie
+use Rattle.rectangle.proofs.column_of.Statement.{statement}
+use Rattle.rectangle.proofs.column_of.Tie as tie
 
 returns : tie.Need-returns
 returns c = rw (c .if1 .taken, zero-mod)
