@@ -33,7 +33,7 @@ pub record Turned (data0 data1 row column bits : ℕ) : Type 0 where
   pub turns : (x : ℕ) → bit bits (7 - x % 8) ≡ patternBit data0 data1 row ((column + x) % 8)
 
 -- a bit of a number's low byte
-low-bit : (n s : ℕ) → s < 8 → n / 2 ^ s % 2 ≡ n % 256 / 2 ^ s % 2
+pub low-bit : (n s : ℕ) → s < 8 → n / 2 ^ s % 2 ≡ n % 256 / 2 ^ s % 2
 low-bit n s l =
     let e : 8 ≡ 8 - s + s = omega arith in
     let f : 8 - s ≡ 7 - s + 1 = omega arith in

@@ -5,9 +5,9 @@ use mathlib.Core.Bool.{Bool, true, false, not, _||_}
 use mathlib.Core.List.{List}
 use mathlib.Core.Logic.{_⊎_, inl, inr, ⊎-elim}
 use native.Mathlib.Omega.{arith}
-use native.Mathlib.Nat.{mod-eq-of-lt, add-mul}
+use native.Mathlib.Nat.{mod-eq-of-lt, mod-mod, add-mul}
 use lib.ListN.{length}
-use Rattle.model.specs.Bits.{bit}
+use Rattle.model.specs.Bits.{bit, bit-cases}
 use borrow.Author.Tests.{eqb-true}
 use Rattle.model.specs.Choice.{_=?_, if_then_else_, not-both, either}
 use Rattle.model.specs.Formats.{Depth}
@@ -25,9 +25,9 @@ use Rattle.model.specs.declared.Pattern.the-variants.{Solid, Mono}
 use Rattle.model.specs.declared.Source.{Source}
 use Rattle.model.specs.declared.Source.the-variants.{Unselected, Frame, Bits}
 use Rattle.model.specs.declared.SourceValue.the-variants.{Transparent, Value}
-use Rattle.laws.specs.Whole.{blended, flipOf, keepOf, raster-blended, blended-all}
+use Rattle.laws.specs.Whole.{blended, flipOf, keepOf, raster-blended, blended-low, blended-all}
 use Rattle.laws.specs.Pixels.{Bytes, store-low, store-raster, read-lt, store-read}
-use Rattle.laws.specs.Patterns.{Turned}
+use Rattle.laws.specs.Patterns.{Turned, low-bit}
 use Rattle.laws.specs.Lows.{lowColumn, columnAt}
 use Rattle.laws.specs.Order.{inOrder, order-same, order-add, order-length, Remain, remain-add}
 use Rattle.laws.specs.Changes.{changed, changedAt, changedRow, length-changed, Changes}
@@ -123,6 +123,15 @@ pub blend-drawn : (b : Blt) → Depth (b .destination .depth) → {flip keep : �
     → drawnWith b color value at frame ≡ changed (b .destination .depth) (blended flip keep) at frame
 blend-drawn b deep = blend-stored deep (b .code)
 
+-- what is stored of it goes by the low bits alone
+pub blend-low : (depth : ℕ) (frame : List ℕ) (at f k o flip keep old : ℕ) → f % 2 ^ (8 * depth) ≡ flip % 2 ^ (8 * depth)
+    → k % 2 ^ (8 * depth) ≡ keep % 2 ^ (8 * depth) → o % 2 ^ (8 * depth) ≡ old % 2 ^ (8 * depth)
+    → storePixel depth frame at (blended f k o) ≡ storePixel depth frame at (blended flip keep old)
+blend-low depth frame at f k o flip keep old p q r =
+    sym (store-low depth frame at (blended f k o))
+    ∙ ap (storePixel depth frame at) (blended-low (8 * depth) f k o ∙ rw (p, q, r) (sym (blended-low (8 * depth) flip keep old)))
+    ∙ store-low depth frame at (blended flip keep old)
+
 -- or, where nothing is written, the blend that keeps all
 abbrev pub flipUnless : Bool → (code color value : ℕ) → ℕ
 flipUnless nothing code color value = if nothing then 0 else flipOf code color value
@@ -181,9 +190,41 @@ module _ (b : Blt) {value : ℕ} (plain : Plain (b .code) (b .source) value) whe
 abbrev pub picked : (bits i set clear : ℕ) → ℕ
 picked bits i set clear = if bit bits (7 - i % 8) =? 1 then set else clear
 
+-- what stands above the eight bits is of no account
+pub picked-same : (b bits : ℕ) → b % 256 ≡ bits % 256 → (i set clear : ℕ) → picked b i set clear ≡ picked bits i set clear
+picked-same b bits e i set clear =
+    let same : bit b (7 - i % 8) ≡ bit bits (7 - i % 8) =
+    low-bit b (7 - i % 8) (omega arith) ∙ rw e (sym (low-bit bits (7 - i % 8) (omega arith))) in
+    rw same
+
+-- of the low bits of two numbers it picks those of the one that it picks of the two
+picked-low : (n bits i set clear : ℕ) → picked bits i (set % n) (clear % n) % n ≡ picked bits i set clear % n
+picked-low n bits i set clear =
+    ⊎-elim (λ z. rw z (mod-mod clear n)) (λ z. rw z (mod-mod set n)) (bit-cases (bits / 2 ^ (7 - i % 8)))
+
 -- each pixel's blend by its bit
 abbrev pub markRule : (bits flip1 keep1 flip0 keep0 : ℕ) → ℕ → ℕ → ℕ
 markRule bits flip1 keep1 flip0 keep0 i = blended (picked bits i flip1 flip0) (picked bits i keep1 keep0)
+
+-- the low bits of a blend, as many as a pixel has
+pub record Narrow (depth flip keep f k : ℕ) : Type 0 where
+  pub flip-low : f ≡ flip % 2 ^ (8 * depth)
+  pub keep-low : k ≡ keep % 2 ^ (8 * depth)
+
+-- they serve for the blends of a row
+pub mark-low : (depth : ℕ) {flip1 keep1 flip0 keep0 f1 k1 f0 k0 : ℕ} → Narrow depth flip1 keep1 f1 k1 → Narrow depth flip0 keep0 f0 k0
+    → (b bits : ℕ) → b % 256 ≡ bits % 256 → (n at : ℕ) (row : List ℕ)
+    → changedRow depth (markRule b f1 k1 f0 k0) n at row ≡ changedRow depth (markRule bits flip1 keep1 flip0 keep0) n at row
+mark-low depth {flip1} {keep1} {flip0} {keep0} {f1} {k1} {f0} {k0} one zero b bits e n at =
+    order-same (changedAt depth (markRule b f1 k1 f0 k0) at) (changedAt depth (markRule bits flip1 keep1 flip0 keep0) at) n 0 0
+    (λ m l row.
+    let old = readPixel depth row (at + (0 + m) * depth) in
+    blend-low depth row _ (picked b (0 + m) f1 f0) (picked b (0 + m) k1 k0) old (picked bits (0 + m) flip1 flip0) (picked bits (0 + m) keep1 keep0) old
+    (low (0 + m) flip1 flip0 (one .flip-low) (zero .flip-low)) (low (0 + m) keep1 keep0 (one .keep-low) (zero .keep-low)) refl)
+  where
+    low : (i set clear : ℕ) {s c : ℕ} → s ≡ set % 2 ^ (8 * depth) → c ≡ clear % 2 ^ (8 * depth)
+        → picked b i s c % 2 ^ (8 * depth) ≡ picked bits i set clear % 2 ^ (8 * depth)
+    low i set clear p q = rw (p, q, picked-same b bits e i _ _) (picked-low (2 ^ (8 * depth)) bits i set clear)
 
 -- the most of n pixels that make whole eights
 abbrev pub wholeEights : ℕ → ℕ

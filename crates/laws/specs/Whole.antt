@@ -116,6 +116,10 @@ choose-whole (suc m) x y by hx hy =
 abbrev pub blended : (flip keep old : ℕ) → ℕ
 blended flip keep old = bitXor flip (bitAnd old keep)
 
+-- its low bits are the blend of the low bits
+pub blended-low : (m flip keep old : ℕ) → blended flip keep old % 2 ^ m ≡ blended (flip % 2 ^ m) (keep % 2 ^ m) (old % 2 ^ m)
+blended-low m flip keep old = xor-mod flip (bitAnd old keep) m ∙ ap (bitXor (flip % 2 ^ m)) (and-mod old keep m)
+
 -- of one pattern and one source value the raster operation is a choice by D, between what they give where D is 0 and where it
 -- is 1
 module _ (code : ℕ) where
