@@ -7,7 +7,7 @@ ghost use Rattle.model.specs.Formats.{Depth};
 ghost use Rattle.laws.specs.Order.{inOrder};
 ghost use Rattle.laws.specs.Whole.{blended};
 ghost use Rattle.laws.specs.Changes.{changedAt, changedRow};
-ghost use Rattle.laws.specs.Plain.{picked, markRule, wholeEights};
+ghost use Rattle.laws.specs.Plain.{picked, markRule, Narrow, wholeEights};
 use pixel::Blend;
 
 // ---- one value
@@ -97,6 +97,13 @@ pub fn blend(row: &mut [u8], depth: usize, b: Blend)
 
 // ---- one of two blends, by eight bits that come round
 
+// Eight bits, and the same eight above them. Of one byte alone the compiler would test bit 7 by its sign, apart from the others.
+fn twice(bits: u32) -> u32
+    ensures { λ r. ⌜ r % 256 ≡ bits % 256 ⌝ }
+{
+    257 * (bits % 256)
+}
+
 // Of two numbers the one for pixel i: bit 7 is the first pixel's.
 fn pick(bits: u32, i: usize, set: u32, clear: u32) -> u32
     ensures { λ r. ⌜ r ≡ picked bits i set clear ⌝ }
@@ -108,20 +115,130 @@ fn pick(bits: u32, i: usize, set: u32, clear: u32) -> u32
     clear
 }
 
-// Applies to eight pixels from a byte on the blends that their bits say, at one byte a pixel.
-fn eight1(row: &mut [u8], at: usize, bits: u32, set: Blend, clear: Blend)
+// The same of two bytes. Pixels are picked among numbers of their own width, or the compiler widens each to four bytes.
+fn pick1(bits: u16, i: usize, set: u8, clear: u8) -> u8
+    ensures { λ r. ⌜ r ≡ picked bits i set clear ⌝ }
+{
+    let by = 7 - i % 8;
+    if (bits >> by) % 2 == 1 {
+        return set;
+    }
+    clear
+}
+
+// The same of two numbers of two bytes.
+fn pick2(bits: u16, i: usize, set: u16, clear: u16) -> u16
+    ensures { λ r. ⌜ r ≡ picked bits i set clear ⌝ }
+{
+    let by = 7 - i % 8;
+    if (bits >> by) % 2 == 1 {
+        return set;
+    }
+    clear
+}
+
+// The low byte of a number.
+fn low1(v: u32) -> u8
+    ensures { λ r. ⌜ r ≡ v % 256 ⌝ }
+{
+    let low = v % 256;
+    low as u8
+}
+
+// The two low bytes.
+fn low2(v: u32) -> u16
+    ensures { λ r. ⌜ r ≡ v % 65536 ⌝ }
+{
+    let low = v % 65536;
+    low as u16
+}
+
+// A byte as a number of four.
+fn wide1(v: u8) -> u32
+    ensures { λ r. ⌜ r ≡ v ⌝ }
+{
+    v as u32
+}
+
+// Two bytes as a number of four.
+fn wide2(v: u16) -> u32
+    ensures { λ r. ⌜ r ≡ v ⌝ }
+{
+    v as u32
+}
+
+// A blend of pixels of one byte.
+struct Blend1 {
+    flip: u8,
+    keep: u8,
+}
+
+// A blend of pixels of two bytes.
+struct Blend2 {
+    flip: u16,
+    keep: u16,
+}
+
+// What a blend is to pixels of one byte: the bits above them are not stored.
+fn narrow1(b: Blend) -> Blend1
+    ensures { λ r. ⌜ Narrow 1 (b .flip) (b .keep) (r .flip) (r .keep) ⌝ }
+{
+    let flip = low1(b.flip);
+    let keep = low1(b.keep);
+    Blend1 { flip, keep }
+}
+
+// The same to pixels of two bytes.
+fn narrow2(b: Blend) -> Blend2
+    ensures { λ r. ⌜ Narrow 2 (b .flip) (b .keep) (r .flip) (r .keep) ⌝ }
+{
+    let flip = low2(b.flip);
+    let keep = low2(b.keep);
+    Blend2 { flip, keep }
+}
+
+// Applies to eight pixels of one byte, from a byte on, the blends that their bits say: eight lanes of a byte. A function of its own,
+// or the compiler picks before it narrows.
+fn lanes1(row: &mut [u8], at: usize, bits: u16, set: Blend1, clear: Blend1)
     requires { ⌜ at + 8 ≤ length (now row) ⌝ }
     ensures { λ _. ⌜ now (row .exit) ≡ changedRow 1 (markRule bits (set .flip) (set .keep) (clear .flip) (clear .keep)) 8 at (now (row .entry)) ⌝ }
 {
     let mut i = 0;
     while i < 8 {
         let a = at + i;
-        let flip = pick(bits, i, set.flip, clear.flip);
-        let keep = pick(bits, i, set.keep, clear.keep);
-        let old = pixel::get1(row, a);
-        pixel::put1(row, a, flip ^ (old & keep));
+        let flip = pick1(bits, i, set.flip, clear.flip);
+        let keep = pick1(bits, i, set.keep, clear.keep);
+        let old = low1(pixel::get1(row, a));
+        pixel::put1(row, a, wide1(flip ^ (old & keep)));
         i += 1;
     }
+}
+
+// The same to pixels of two bytes: eight lanes of two.
+fn lanes2(row: &mut [u8], at: usize, bits: u16, set: Blend2, clear: Blend2)
+    requires { ⌜ at + 16 ≤ length (now row) ⌝ }
+    ensures { λ _. ⌜ now (row .exit) ≡ changedRow 2 (markRule bits (set .flip) (set .keep) (clear .flip) (clear .keep)) 8 at (now (row .entry)) ⌝ }
+{
+    let mut i = 0;
+    while i < 8 {
+        let a = at + i * 2;
+        let flip = pick2(bits, i, set.flip, clear.flip);
+        let keep = pick2(bits, i, set.keep, clear.keep);
+        let old = low2(pixel::get2(row, a));
+        pixel::put2(row, a, wide2(flip ^ (old & keep)));
+        i += 1;
+    }
+}
+
+// Applies to eight pixels from a byte on the blends that their bits say, at one byte a pixel.
+fn eight1(row: &mut [u8], at: usize, bits: u32, set: Blend, clear: Blend)
+    requires { ⌜ at + 8 ≤ length (now row) ⌝ }
+    ensures { λ _. ⌜ now (row .exit) ≡ changedRow 1 (markRule bits (set .flip) (set .keep) (clear .flip) (clear .keep)) 8 at (now (row .entry)) ⌝ }
+{
+    let window = low2(twice(bits));
+    let one = narrow1(set);
+    let zero = narrow1(clear);
+    lanes1(row, at, window, one, zero);
 }
 
 // The same at two bytes a pixel.
@@ -129,15 +246,10 @@ fn eight2(row: &mut [u8], at: usize, bits: u32, set: Blend, clear: Blend)
     requires { ⌜ at + 16 ≤ length (now row) ⌝ }
     ensures { λ _. ⌜ now (row .exit) ≡ changedRow 2 (markRule bits (set .flip) (set .keep) (clear .flip) (clear .keep)) 8 at (now (row .entry)) ⌝ }
 {
-    let mut i = 0;
-    while i < 8 {
-        let a = at + i * 2;
-        let flip = pick(bits, i, set.flip, clear.flip);
-        let keep = pick(bits, i, set.keep, clear.keep);
-        let old = pixel::get2(row, a);
-        pixel::put2(row, a, flip ^ (old & keep));
-        i += 1;
-    }
+    let window = low2(twice(bits));
+    let one = narrow2(set);
+    let zero = narrow2(clear);
+    lanes2(row, at, window, one, zero);
 }
 
 // The same at four.
@@ -145,11 +257,12 @@ fn eight4(row: &mut [u8], at: usize, bits: u32, set: Blend, clear: Blend)
     requires { ⌜ at + 32 ≤ length (now row) ⌝ }
     ensures { λ _. ⌜ now (row .exit) ≡ changedRow 4 (markRule bits (set .flip) (set .keep) (clear .flip) (clear .keep)) 8 at (now (row .entry)) ⌝ }
 {
+    let window = twice(bits);
     let mut i = 0;
     while i < 8 {
         let a = at + i * 4;
-        let flip = pick(bits, i, set.flip, clear.flip);
-        let keep = pick(bits, i, set.keep, clear.keep);
+        let flip = pick(window, i, set.flip, clear.flip);
+        let keep = pick(window, i, set.keep, clear.keep);
         let old = pixel::get4(row, a);
         pixel::put4(row, a, flip ^ (old & keep));
         i += 1;
