@@ -1,6 +1,7 @@
 pub mod Modular
 pub mod Whole
 pub mod Pixels
+pub mod Windows
 pub mod Patterns
 pub mod Some
 pub mod Units

@@ -1,7 +1,6 @@
 -- The mono pattern's bit in its word, by one shift.
 use Prim.Native.Nat.{ℕ, _+_, _-_, _*_, _/_, _%_, _^_, _≤_, _<_}
-use mathlib.Core.Path.{_≡_, sym, ap, _∙_}
-use mathlib.Core.Logic.{⊎-elim}
+use mathlib.Core.Path.{_≡_, ap}
 use native.Mathlib.Omega.{arith}
 use native.Mathlib.Nat.{mod-lt}
 use borrow.Author.Tests.{lt-ltb, le-ltb}
@@ -9,7 +8,7 @@ use lib.Pow.{field as low-field, mod-mod-pow, shr-shr}
 use Rattle.model.specs.Bits.{bit, field}
 use Rattle.model.specs.Choice.{_<?_, if_then_else_}
 use Rattle.model.specs.Pattern.{patternByte, patternBit}
-use Rattle.laws.specs.Numbers.{less-or-not}
+use Rattle.laws.specs.Windows.{joined-bit}
 
 -- bit k of byte number r of a word
 byte-bit : (word r k : ℕ) → k < 8 → bit (field word (8 * r + 7) (8 * r)) k ≡ word / 2 ^ (8 * r + k) % 2
@@ -32,34 +31,12 @@ module _ (data0 data1 row column : ℕ) where
 pub record Turned (data0 data1 row column bits : ℕ) : Type 0 where
   pub turns : (x : ℕ) → bit bits (7 - x % 8) ≡ patternBit data0 data1 row ((column + x) % 8)
 
--- a bit of a number's low byte
-pub low-bit : (n s : ℕ) → s < 8 → n / 2 ^ s % 2 ≡ n % 256 / 2 ^ s % 2
-low-bit n s l =
-    let e : 8 ≡ 8 - s + s = omega arith in
-    let f : 8 - s ≡ 7 - s + 1 = omega arith in
-    sym
-    (ap (λ (y : ℕ). n % 2 ^ y / 2 ^ s % 2) e ∙ ap (λ (y : ℕ). y % 2) (low-field n (8 - s) s)
-    ∙ ap (λ (y : ℕ). n / 2 ^ s % 2 ^ y % 2) f ∙ mod-mod-pow (n / 2 ^ s) (7 - s) 1)
-
 -- a byte twice over, moved to the right by 8 less the column
 twice : (byte column x : ℕ) → byte < 256 → column < 8 → bit (257 * byte / 2 ^ (8 - column)) (7 - x % 8) ≡ bit byte (7 - (column + x) % 8)
 twice byte column x b c =
-    ap (λ (y : ℕ). y % 2) (shr-shr (257 * byte) (8 - column) (7 - x % 8)) ∙ ⊎-elim low high (less-or-not (column + x % 8) 8)
-  where
-    last : ℕ
-    last = 7 - (column + x) % 8
-
-    low : column + x % 8 < 8 → 257 * byte / 2 ^ (8 - column + (7 - x % 8)) % 2 ≡ bit byte last
-    low l =
-        let e : 8 - column + (7 - x % 8) ≡ 8 + last = omega arith in
-        let f : 257 * byte / 2 ^ 8 ≡ byte = omega arith in
-        ap (λ (y : ℕ). 257 * byte / 2 ^ y % 2) e ∙ ap (λ (y : ℕ). y % 2) (sym (shr-shr (257 * byte) 8 last)) ∙ rw f
-
-    high : 8 ≤ column + x % 8 → 257 * byte / 2 ^ (8 - column + (7 - x % 8)) % 2 ≡ bit byte last
-    high l =
-        let e : 8 - column + (7 - x % 8) ≡ last = omega arith in
-        let f : 257 * byte % 256 ≡ byte = omega arith in
-        ap (λ (y : ℕ). 257 * byte / 2 ^ y % 2) e ∙ low-bit (257 * byte) last (omega arith) ∙ rw f
+    let e : 257 * byte ≡ byte * 256 + byte = omega arith in
+    let f : (column + x) % 8 ≡ (column + x % 8) % 8 = omega arith in
+    rw (e, f) (joined-bit (λ _. byte) column 8 (x % 8) c (omega arith) (mod-lt x (omega arith)) b)
 
 pub turned : (data0 data1 row column : ℕ) {word bits : ℕ} → row < 8 → column < 8 → word ≡ (if row <? 4 then data0 else data1)
     → bits ≡ 257 * (word / 2 ^ (8 * (row % 4)) % 256) / 2 ^ (8 - column) → Turned data0 data1 row column bits

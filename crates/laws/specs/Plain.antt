@@ -27,7 +27,8 @@ use Rattle.model.specs.declared.Source.the-variants.{Unselected, Frame, Bits}
 use Rattle.model.specs.declared.SourceValue.the-variants.{Transparent, Value}
 use Rattle.laws.specs.Whole.{blended, flipOf, keepOf, raster-blended, blended-low, blended-all}
 use Rattle.laws.specs.Pixels.{Bytes, store-low, store-raster, read-lt, store-read}
-use Rattle.laws.specs.Patterns.{Turned, low-bit}
+use Rattle.laws.specs.Windows.{low-bit}
+use Rattle.laws.specs.Patterns.{Turned}
 use Rattle.laws.specs.Lows.{lowColumn, columnAt}
 use Rattle.laws.specs.Order.{inOrder, order-same, order-add, order-length, Remain, remain-add}
 use Rattle.laws.specs.Changes.{changed, changedAt, changedRow, length-changed, Changes}
