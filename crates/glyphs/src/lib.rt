@@ -1,15 +1,17 @@
-// Rows of a BLT with a solid pattern and a mono source, as text is: n pixels of row j, from column i. Eight pixels that go by the
-// bits of one byte are drawn at once.
+// Rows of a BLT with a solid pattern and a mono source, as text is: n pixels of row j, from column i. Eight pixels are drawn at once, by a
+// window of bits that is read before the first of them, wherever in a byte it begins.
 ghost use mathlib.Core.Path.{_≡_};
 ghost use mathlib.Core.Bool.{true};
-ghost use Prim.Native.Nat.{_+_, _^_, _≤_, _<_};
+ghost use Prim.Native.Nat.{_+_, _-_, _*_, _/_, _%_, _^_, _≤_, _<_};
 ghost use lib.ListN.{length};
+ghost use Rattle.model.specs.Formats.{Depth};
 ghost use Rattle.model.specs.Rectangle.{pixelByte};
 ghost use Rattle.model.specs.declared.Pattern.the-variants.{Solid};
 ghost use Rattle.model.specs.declared.Source.the-variants.{Bits};
 ghost use Rattle.laws.specs.Rows.{Row, rowPixels};
-ghost use Rattle.laws.specs.Plain.{picked};
-ghost use Rattle.laws.specs.Glyphs.{Inked, Together};
+ghost use Rattle.laws.specs.Changes.{changedRow};
+ghost use Rattle.laws.specs.Plain.{picked, markRule};
+ghost use Rattle.laws.specs.Glyphs.{Inked, Window, Apart, Windowed};
 use model::Blt;
 use model::MonoSource;
 use pixel::Blend;
@@ -51,29 +53,104 @@ fn pick(byte: u32, x: usize, inks: Inks) -> Blend
     inks.clear
 }
 
-// Whether eight of the pixels that are left, from byte `at` up, are drawn at once: their bits, from number x of the row on, are
-// those of one byte, and none of them overwrites it.
-fn together(negative: bool, x: usize, left: usize, q: usize, at: usize, depth: usize) -> bool
-    requires { ⌜ (at < 2 ^ 32) × (depth ≤ 4) ⌝ }
-    ensures { λ r. ⌜ (r ≡ true → Together negative x left q at depth) ⌝ }
+// ---- windows of bits
+
+// The bits of c pixels, the first in bit 7: those from bit number `shift` of byte q on, counted from the byte's top. Two bytes joined
+// hold them, or one, then joined to itself, so that no byte beyond their bits is read.
+fn window(f: &[u8], q: usize, shift: usize, c: usize) -> u32
+    requires { ⌜ (shift < 8) × (0 < c) × (c ≤ 8) × (q + (shift + c - 1) / 8 < length (now f)) ⌝ }
+    ensures { λ r. ⌜ Window (now (f .entry)) q shift c r ⌝ }
+{
+    let first = pixel::get1(f, q);
+    let second = pixel::get1(f, q + (shift + c - 1) / 8);
+    ((first * 256 + second) >> (8 - shift)) % 256
+}
+
+// Whether n pixels from byte `to` up overwrite none of the bytes that hold their bits, from bit number `shift` of byte q on. Then
+// several bits may be read before the first of their pixels is drawn.
+fn is_apart(negative: bool, depth: usize, n: usize, to: usize, q: usize, shift: usize) -> bool
+    requires { ⌜ (0 < n) × (n < 2 ^ 32) × (n * depth < 2 ^ 32) × (to < 2 ^ 32) × (q < 2 ^ 32) × (shift < 8) ⌝ }
+    ensures { λ r. ⌜ (r ≡ true → Apart negative depth n to q shift) ⌝ }
 {
     if negative {
         return false;
     }
-    if x % 8 != 0 {
-        return false;
-    }
-    if left < 8 {
-        return false;
-    }
-    if q < at {
+    if q + (shift + n - 1) / 8 < to {
         return true;
     }
-    at + 8 * depth <= q
+    to + n * depth <= q
 }
 
-// Draws pixel m of a row, or eight from there on, and says how many.
-fn step(
+// ---- rows by windows
+
+// Applies to c pixels from byte `at` up the blends that their bits say.
+fn few(f: &mut [u8], depth: usize, at: usize, bits: u32, inks: Inks, c: usize)
+    requires { ⌜ (Depth depth) × (at + c * depth ≤ length (now f)) ⌝ }
+    ensures { λ _. ⌜ now (f .exit) ≡ changedRow depth (markRule bits (inks .set .flip) (inks .set .keep) (inks .clear .flip) (inks .clear .keep)) c at (now (f .entry)) ⌝ }
+{
+    let mut k = 0;
+    while k < c {
+        let ink = pick(bits, k, inks);
+        pixel::apply(f, depth, at + k * depth, ink);
+        k += 1;
+    }
+}
+
+// Draws the first of n pixels of row j, from column i, as many as make whole eights, and says how many. They lie from byte `to` up,
+// and their bits from bit number `shift` of byte q on.
+fn eights(
+    f: &mut [u8],
+    b: Blt,
+    inks: Inks,
+    to: usize,
+    q: usize,
+    shift: usize,
+    i: usize,
+    j: usize,
+    n: usize,
+) -> usize
+    requires { ⌜ Windowed (length (now f)) b i j n (inks .set .flip) (inks .set .keep) (inks .clear .flip) (inks .clear .keep) to q shift ⌝ }
+    ensures { λ r. ⌜ (r % 8 ≡ 0) × (r ≤ n) × (n < r + 8) × (now (f .exit) ≡ rowPixels b i j r (now (f .entry))) ⌝ }
+{
+    let mut m = 0;
+    while 8 <= n - m {
+        let d = b.destination;
+        let bits = window(f, q + m / 8, shift, 8);
+        writers::eight(f, d.depth, to + m * d.depth, bits, inks.set, inks.clear);
+        m += 8;
+    }
+    m
+}
+
+// Draws all of them: by eights, and the rest by one window.
+fn by_windows(
+    f: &mut [u8],
+    b: Blt,
+    inks: Inks,
+    to: usize,
+    q: usize,
+    shift: usize,
+    i: usize,
+    j: usize,
+    n: usize,
+)
+    requires { ⌜ Windowed (length (now f)) b i j n (inks .set .flip) (inks .set .keep) (inks .clear .flip) (inks .clear .keep) to q shift ⌝ }
+    ensures { λ _. ⌜ now (f .exit) ≡ rowPixels b i j n (now (f .entry)) ⌝ }
+{
+    let d = b.destination;
+    let m = eights(f, b, inks, to, q, shift, i, j, n);
+    let c = n - m;
+    if c == 0 {
+        return;
+    }
+    let bits = window(f, q + m / 8, shift, c);
+    few(f, d.depth, to + m * d.depth, bits, inks, c);
+}
+
+// ---- rows
+
+// Draws n pixels one after the other: each finds its bit as it then stands.
+fn in_order(
     f: &mut [u8],
     b: Blt,
     s: MonoSource,
@@ -83,24 +160,21 @@ fn step(
     i: usize,
     j: usize,
     n: usize,
-    m: usize,
-) -> usize
-    requires { ⌜ (Row (length (now f)) b i j n) × (Inked b s (inks .set .flip) (inks .set .keep) (inks .clear .flip) (inks .clear .keep)) × (to ≡ pixelByte (b .destination) i j) × (from ≡ pixelByte (s .bytes) 0 j) × (m < n) ⌝ }
-    ensures { λ r. ⌜ (0 < r) × (m + r ≤ n) × (now (f .exit) ≡ rowPixels b (i + m) j r (now (f .entry))) ⌝ }
+)
+    requires { ⌜ (Row (length (now f)) b i j n) × (Inked b s (inks .set .flip) (inks .set .keep) (inks .clear .flip) (inks .clear .keep)) × (to ≡ pixelByte (b .destination) i j) × (from ≡ pixelByte (s .bytes) 0 j) ⌝ }
+    ensures { λ _. ⌜ now (f .exit) ≡ rowPixels b i j n (now (f .entry)) ⌝ }
 {
-    let d = b.destination;
-    let columns = d.columns;
-    let at = rectangle::along(columns, to, m);
-    let x = s.skip + (i + m);
-    let q = from + x / 8;
-    let byte = pixel::get1(f, q);
-    if together(columns.negative, x, n - m, q, at, d.depth) {
-        writers::eight(f, d.depth, at, byte, inks.set, inks.clear);
-        return 8;
+    let mut m = 0;
+    while m < n {
+        let d = b.destination;
+        let columns = d.columns;
+        let at = rectangle::along(columns, to, m);
+        let x = s.skip + (i + m);
+        let byte = pixel::get1(f, from + x / 8);
+        let ink = pick(byte, x, inks);
+        pixel::apply(f, d.depth, at, ink);
+        m += 1;
     }
-    let ink = pick(byte, x, inks);
-    pixel::apply(f, d.depth, at, ink);
-    1
 }
 
 // The row, whatever the raster code.
@@ -109,12 +183,17 @@ pub fn bits(f: &mut [u8], b: Blt, color: u32, s: MonoSource, i: usize, j: usize,
     ensures { λ _. ⌜ now (f .exit) ≡ rowPixels b i j n (now (f .entry)) ⌝ }
 {
     let inks = inks_of(b, color, s);
-    let first = b.destination;
-    let to = rectangle::pixel_byte(first, i, j);
+    let d = b.destination;
+    let columns = d.columns;
+    let to = rectangle::pixel_byte(d, i, j);
     let bytes = s.bytes;
     let from = rectangle::pixel_byte(bytes, 0, j);
-    let mut m = 0;
-    while m < n {
-        m += step(f, b, s, inks, to, from, i, j, n, m);
+    let x = s.skip + i;
+    let q = from + x / 8;
+    let shift = x % 8;
+    if is_apart(columns.negative, d.depth, n, to, q, shift) {
+        by_windows(f, b, inks, to, q, shift, i, j, n);
+        return;
     }
+    in_order(f, b, s, inks, to, from, i, j, n);
 }

@@ -1,12 +1,12 @@
 -- Rows of a BLT with a solid pattern and a mono source: each pixel's new value is a blend of its old one, by its bit, and
--- eight pixels go by the bits of one byte.
+-- up to eight pixels go by a window of bits that is read once.
 use Prim.Native.Nat.{ℕ, _+_, _-_, _*_, _/_, _%_, _^_, _≤_, _<_}
 use mathlib.Core.Path.{_≡_, refl, sym, ap, _∙_}
 use mathlib.Core.Bool.{Bool, true, false}
 use mathlib.Core.List.{List}
-use mathlib.Core.Logic.{_⊎_, ⊎-elim}
+use mathlib.Core.Logic.{_⊎_, inl, inr, ⊎-elim}
 use native.Mathlib.Omega.{arith}
-use native.Mathlib.Nat.{suc-mul, mul-le-mul-right}
+use native.Mathlib.Nat.{add-mul, mul-le-mul-right}
 use Rattle.model.specs.Bits.{bit, bit-cases}
 use Rattle.model.specs.Choice.{_=?_, if_then_else_, true-or-false}
 use Rattle.model.specs.Formats.{Depth}
@@ -21,11 +21,12 @@ use Rattle.model.specs.declared.Pattern.the-variants.{Solid}
 use Rattle.model.specs.declared.Source.the-variants.{Bits}
 use Rattle.model.specs.declared.SourceValue.the-variants.{Transparent, Value}
 use Rattle.laws.specs.Whole.{blended, flipOf, keepOf}
-use Rattle.laws.specs.Pixels.{Bytes, read-same, store-below, store-above, store-bytes}
+use Rattle.laws.specs.Pixels.{Bytes, read-lt, read-same, store-below, store-above, store-bytes}
+use Rattle.laws.specs.Windows.{low-bit, joined, joined-bit}
 use Rattle.laws.specs.Order.{order-through}
-use Rattle.laws.specs.Rows.{Row, rowPixels, solidOperands, solid-drawn, bitAt, bits-read}
-use Rattle.laws.specs.Lows.{Span, lowColumn, columnAt, lowByte, place-byte, bytes-in}
-use Rattle.laws.specs.Changes.{changed, changedAt, changedRow}
+use Rattle.laws.specs.Rows.{Row, rowPixels, row-within, solidOperands, solid-drawn, bitAt, bits-within, bits-read}
+use Rattle.laws.specs.Lows.{lowColumn, columnAt, lowByte, destination-span, place-byte, bytes-in}
+use Rattle.laws.specs.Changes.{changed, changedAt, changedRow, step-le}
 use Rattle.laws.specs.Plain.{drawnWith, blend-drawn, unless-drawn, flipUnless, keepUnless, picked, markRule}
 
 -- ---- what a bit draws
@@ -73,24 +74,37 @@ ink-drawn b deep color s v f k at frame p =
 picked-bit : (f : ℕ → ℕ) (bits x : ℕ) {set clear : ℕ} → set ≡ f 1 → clear ≡ f 0 → picked bits x set clear ≡ f (bit bits (7 - x % 8))
 picked-bit f bits x p q = ⊎-elim (λ e. rw e q) (λ e. rw e p) (bit-cases (bits / 2 ^ (7 - x % 8)))
 
--- ---- pixels
+-- ---- windows of bits
 
--- eight of the pixels that are left, from byte `at` up, may be drawn at once: their bits, from number x of the row on, are those
--- of one byte, and that byte, at q, is none of theirs
-pub record Together (negative : Bool) (x left q at depth : ℕ) : Type 0 where
+-- the bits of c pixels, the first in bit 7: those from bit number `shift` of byte q on, counted from the byte's top
+pub record Window (frame : List ℕ) (q shift c bits : ℕ) : Type 0 where
+  pub shows : (k : ℕ) → k < c → bit bits (7 - k) ≡ bit (readPixel 1 frame (q + (shift + k) / 8)) (7 - (shift + k) % 8)
+
+-- two bytes hold them, or one
+pub window-read : (frame : List ℕ) → Bytes frame → (q shift c : ℕ) → shift < 8 → c ≤ 8 → {first second : ℕ} → first ≡ readPixel 1 frame q
+    → second ≡ readPixel 1 frame (q + (shift + c - 1) / 8) → Window frame q shift c (joined first second shift % 256)
+window-read frame p q shift c s h {first} {second} e f = record {
+  shows = λ k l.
+      let z : q ≡ q + 0 = omega arith in
+      let first-is : first ≡ readPixel 1 frame (q + 0) = e ∙ ap (readPixel 1 frame) z in
+      sym (low-bit (joined first second shift) (7 - k) (omega arith))
+      ∙ rw (first-is, f)
+      (joined-bit (λ y. readPixel 1 frame (q + y)) shift c k s h l (omega (arith, read-lt 1 frame (q + (shift + c - 1) / 8) p)));
+}
+
+-- n pixels from byte `to` up overwrite none of the bytes that hold their bits, from bit number `shift` of byte q on
+pub record Apart (negative : Bool) (depth n to q shift : ℕ) : Type 0 where
   pub up : negative ≡ false
-  pub whole : x % 8 ≡ 0
-  pub enough : 8 ≤ left
-  pub apart : (q < at) ⊎ (at + 8 * depth ≤ q)
+  pub apart : (q + (shift + n - 1) / 8 < to) ⊎ (to + n * depth ≤ q)
+
+-- ---- pixels
 
 module _ {size : ℕ} {b : Blt} {i j n : ℕ} (r : Row size b i j n) {s : MonoSource} {flip1 keep1 flip0 keep0 : ℕ}
     (inks : Inked b s flip1 keep1 flip0 keep0) {from : ℕ} (begins : from ≡ pixelByte (s .bytes) 0 j) where
-  abbrev rule : ℕ → ℕ → ℕ → ℕ
-  rule byte = markRule byte flip1 keep1 flip0 keep0
-
   -- pixel m of a row, by its bit
   pub bit-drawn : {m : ℕ} → m < n → {at : ℕ} → at ≡ pixelByte (b .destination) (i + m) j → (frame : List ℕ) → Bytes frame
-      → changed (b .destination .depth) (rule (readPixel 1 frame (from + (s .skip + (i + m)) / 8)) (s .skip + (i + m))) at frame
+      → changed (b .destination .depth)
+      (markRule (readPixel 1 frame (from + (s .skip + (i + m)) / 8)) flip1 keep1 flip0 keep0 (s .skip + (i + m))) at frame
       ≡ drawAt b (i + m) j frame
   bit-drawn {m} l {at} a frame p =
       let x = s .skip + (i + m) in
@@ -100,56 +114,100 @@ module _ {size : ℕ} {b : Blt} {i j n : ℕ} (r : Row size b i j n) {s : MonoSo
       (picked-bit (keepBit (b .code) (inks .color) s) byte x (inks .set-keep) (inks .clear-keep)) at frame p
       ∙ solid-drawn b (i + m) j frame refl a (inks .solid) refl (bits-read r l refl (inks .bits) begins frame)
 
-  module _ {m at q : ℕ} (l : m < n) (a : at ≡ pixelByte (b .destination) (i + m) j) (reads : q ≡ from + (s .skip + (i + m)) / 8)
-      (t : Together (b .destination .columns .negative) (s .skip + (i + m)) (n - m) q at (b .destination .depth)) where
-    -- the eight pixels, from the lowest up
-    eight : Span size (b .destination) (i + m) j 8
-    eight = record {
-      fit = r .fit .destination-fit;
-      columns = omega (arith, r .columns, t .enough);
-      row = r .row;
-      some = omega arith;
-    }
+-- ---- rows that go by windows
 
-    low : at ≡ lowByte (b .destination) (i + m) j 8
-    low = a ∙ ap (λ (v : Bool). pixelByte (b .destination) (lowColumn v (i + m) 8) j) (sym (t .up))
+-- n pixels of row j, from column i: they lie from byte `to` up, and their bits from bit number `shift` of byte q on
+pub record Windowed (size : ℕ) (b : Blt) (i j n flip1 keep1 flip0 keep0 to q shift : ℕ) : Type 0 where
+  pub row : Row size b i j n
+  pub some : 0 < n
+  pub source : MonoSource
+  pub inked : Inked b source flip1 keep1 flip0 keep0
+  pub begins : to ≡ pixelByte (b .destination) i j
+  pub byte-is : q ≡ pixelByte (source .bytes) 0 j + (source .skip + i) / 8
+  pub shift-is : shift ≡ (source .skip + i) % 8
+  pub apart : Apart (b .destination .columns .negative) (b .destination .depth) n to q shift
 
-    -- their bytes
-    pub eight-in : at + 8 * b .destination .depth ≤ size
-    eight-in = bytes-in eight low
+module _ {size : ℕ} {b : Blt} {i j n flip1 keep1 flip0 keep0 to q shift : ℕ}
+    (w : Windowed size b i j n flip1 keep1 flip0 keep0 to q shift) where
+  low : to ≡ lowByte (b .destination) i j n
+  low = w .begins ∙ ap (λ (v : Bool). pixelByte (b .destination) (lowColumn v i n) j) (sym (w .apart .up))
 
-    -- one of them, by its bit of the byte
-    eight-at : {k : ℕ} → k < 8 → (frame : List ℕ) → Bytes frame
-        → drawAt b (i + m + k) j frame ≡ changedAt (b .destination .depth) (rule (readPixel 1 frame q)) at k frame
-    eight-at {k} h frame p =
-        let y : i + (m + k) ≡ i + m + k = omega arith in
-        let x : (s .skip + (i + m + k)) % 8 ≡ k % 8 = omega (arith, t .whole) in
-        let u : from + (s .skip + (i + m + k)) / 8 ≡ q = omega (arith, t .whole) in
-        let here : at + k * b .destination .depth ≡ pixelByte (b .destination) (i + (m + k)) j =
-        rw y (sym (ap (λ (v : Bool). pixelByte (b .destination) (columnAt v (i + m) 8 k) j) (sym (t .up)) ∙ place-byte eight low k h)) in
-        sym (rw (y, x, u) at (bit-drawn {m = m + k} (omega (arith, t .enough)) here frame p))
+  -- where pixel k lies
+  place : (k : ℕ) → k < n → to + k * b .destination .depth ≡ pixelByte (b .destination) (i + k) j
+  place k l =
+      sym
+      (ap (λ (v : Bool). pixelByte (b .destination) (columnAt v i n k) j) (sym (w .apart .up))
+      ∙ place-byte (destination-span (w .row) (w .some)) low k l)
 
-    -- it leaves the byte as it was
-    eight-keeps : {k : ℕ} → k < 8 → (frame : List ℕ) (v : ℕ)
-        → readPixel 1 (storePixel (b .destination .depth) frame (at + k * b .destination .depth) v) q ≡ readPixel 1 frame q
-    eight-keeps {k} h frame v =
-        read-same 1 _ frame q q
-        (λ e l.
-        ⊎-elim
-        (λ below. store-below (b .destination .depth) frame _ v (q + e) (omega arith))
-        (λ above. store-above (b .destination .depth) frame _ v (q + e) (omega (arith, suc-mul k (b .destination .depth), mul-le-mul-right (b .destination .depth) h)))
-        (t .apart))
+  -- their bytes, and those of their bits
+  pub windowed-in : to + n * b .destination .depth ≤ size
+  windowed-in = bytes-in (destination-span (w .row) (w .some)) low
 
-    -- all of them, by the byte as it was before the first
-    pub eight-drawn : (frame : List ℕ) → Bytes frame
-        → changedRow (b .destination .depth) (rule (readPixel 1 frame q)) 8 at frame ≡ rowPixels b (i + m) j 8 frame
-    eight-drawn frame p =
-        let byte = readPixel 1 frame q in
+  pub windowed-reads : q + (shift + n - 1) / 8 < size
+  windowed-reads =
+      omega (arith, bits-within (w .row) {m = n - 1} (omega (arith, w .some)) refl (w .inked .bits) .bit-in, w .some, w .byte-is, w .shift-is)
+
+  -- c of them, from number m on, where whole windows come before
+  pub windowed-part : (m : ℕ) {c : ℕ} → 0 < c → m + c ≤ n → m % 8 ≡ 0 → {now : ℕ} → now ≡ size
+      → Windowed now b (i + m) j c flip1 keep1 flip0 keep0 (to + m * b .destination .depth) (q + m / 8) shift
+  windowed-part m {c} z l e same =
+      let depth = b .destination .depth in
+      record {
+        row = row-within (w .row) (omega arith) same;
+        some = z;
+        source = w .source;
+        inked = w .inked;
+        begins = place m (omega arith);
+        byte-is = omega (arith, w .byte-is);
+        shift-is = omega (arith, w .shift-is);
+        apart = record {
+          up = w .apart .up;
+          apart = ⊎-elim
+              (λ below. inl (omega arith))
+              (λ above. inr (omega (arith, add-mul m c depth, mul-le-mul-right depth l)))
+              (w .apart .apart);
+        };
+      }
+
+  module _ (most : n ≤ 8) {bits : ℕ} where
+    -- one of them, by its bit of the window
+    window-at : {k : ℕ} → k < n → (frame : List ℕ) → Bytes frame → Window frame q shift n bits
+        → drawAt b (i + k) j frame ≡ changedAt (b .destination .depth) (markRule bits flip1 keep1 flip0 keep0) to k frame
+    window-at {k} l frame p v =
+        let s = w .source in
+        let x = s .skip + (i + k) in
+        let at : q + (shift + k) / 8 ≡ pixelByte (s .bytes) 0 j + x / 8 = omega (arith, w .byte-is, w .shift-is) in
+        let number : (shift + k) % 8 ≡ x % 8 = omega (arith, w .shift-is) in
+        let low-k : k % 8 ≡ k = omega arith in
+        let shown = rw (at, number) at (v .shows k l) in
+        sym (rw (← shown) at (bit-drawn (w .row) (w .inked) refl l (place k l) frame p)) ∙ rw low-k
+
+    -- it leaves the bytes of bits as they were
+    window-keeps : {k : ℕ} → k < n → (frame : List ℕ) (value : ℕ) → Window frame q shift n bits
+        → Window (storePixel (b .destination .depth) frame (to + k * b .destination .depth) value) q shift n bits
+    window-keeps {k} l frame value v =
+        let depth = b .destination .depth in
+        record {
+          shows = λ y h.
+              v .shows y h
+              ∙ ap (λ (byte : ℕ). bit byte (7 - (shift + y) % 8))
+              (sym
+              (read-same 1 _ frame (q + (shift + y) / 8) (q + (shift + y) / 8)
+              (λ e t.
+              ⊎-elim
+              (λ below. store-below depth frame _ value (q + (shift + y) / 8 + e) (omega arith))
+              (λ above. store-above depth frame _ value (q + (shift + y) / 8 + e) (omega (arith, step-le depth k n l)))
+              (w .apart .apart))));
+        }
+
+    -- all of them, by the window as it was before the first
+    pub window-drawn : (frame : List ℕ) → Bytes frame → Window frame q shift n bits
+        → changedRow (b .destination .depth) (markRule bits flip1 keep1 flip0 keep0) n to frame ≡ rowPixels b i j n frame
+    window-drawn frame p v =
         sym
-        (order-through (λ m. drawAt b m j) (changedAt (b .destination .depth) (rule byte) at) (λ frame. frame)
-        (λ frame. Bytes frame × (readPixel 1 frame q ≡ byte)) 8 (i + m) 0
-        (λ k h frame w.
+        (order-through (λ m. drawAt b m j) (changedAt (b .destination .depth) (markRule bits flip1 keep1 flip0 keep0) to) (λ frame. frame)
+        (λ frame. Bytes frame × Window frame q shift n bits) n i 0
+        (λ k h frame u.
         let z : 0 + k ≡ k = omega arith in
-        rw z
-        (rw (w .1) at (eight-at h frame (w .0)), (store-bytes (b .destination .depth) frame _ _ (w .0), eight-keeps h frame _ ∙ w .1)))
-        frame (p, refl))
+        rw z (window-at h frame (u .0) (u .1), (store-bytes (b .destination .depth) frame _ _ (u .0), window-keeps h frame _ (u .1))))
+        frame (p, v))

@@ -1,47 +1,77 @@
-use Prim.Native.Nat.{_-_}
+use borrow.Author.Needs.{needs}
 use mathlib.Core.Path.{refl}
 use native.Mathlib.Omega.{arith}
-use Rattle.model.specs.BltPixel.{drawAt}
-use Rattle.laws.specs.Order.{Remain, remain-all, remain-add, remain-none}
-use Rattle.laws.specs.Rows.{length-at, row-reached, bits-within}
+use Rattle.laws.specs.Rows.{destination-within, row-pixel, row-reached, bits-within}
+use Rattle.laws.specs.Moves.{row-most}
 use Rattle.glyphs.proofs.bits.Statement.{statement}
 use Rattle.glyphs.proofs.bits.Tie as tie
 
-abbrev Inv-loop : tie.InvT-loop
-Inv-loop f₀ b color s i j n inks to from m₀ f m = Remain (λ x. drawAt b x j) i n f₀ m f
+inks-of-requires : tie.Need-inks-of-requires
+inks-of-requires c κs = search needs
 
-abbrev μ-loop : tie.MeasureT-loop
-μ-loop f₀ b color s i j n inks to from m₀ f m = n - m
+pixel-byte-requires : tie.Need-pixel-byte-requires
+pixel-byte-requires c κs = row-reached (c .before .before .before .before .pre .0) (omega (arith, c .before .before .before .before .pre .1))
 
-inks-of-requires : tie.Need-inks-of-requires Inv-loop μ-loop
-inks-of-requires c κs = (c .before .pre .2, c .before .pre .3)
+pixel-byte-requires-2 : tie.Need-pixel-byte-requires-2
+pixel-byte-requires-2 c κs = bits-within (c .before .before .before .before .before .before .pre .0) (c .before .before .before .before .before .before .pre .1) refl (c .before .before .before .before .before .before .pre .3) .begins
 
-pixel-byte-requires : tie.Need-pixel-byte-requires Inv-loop μ-loop
-pixel-byte-requires c κs = row-reached (c .before .before .before .pre .0) (omega (arith, c .before .before .before .pre .1))
+add-x : tie.Need-add-x
+add-x c = omega (arith, bits-within (c .before .before .before .before .before .before .before .before .pre .0) (c .before .before .before .before .before .before .before .before .pre .1) refl (c .before .before .before .before .before .before .before .before .pre .3) .bit-near)
 
-pixel-byte-requires-2 : tie.Need-pixel-byte-requires-2 Inv-loop μ-loop
-pixel-byte-requires-2 c κs = bits-within (c .before .before .before .before .before .pre .0) (c .before .before .before .before .before .pre .1) refl (c .before .before .before .before .before .pre .3) .begins
+add-q : tie.Need-add-q
+add-q c = omega (arith, bits-within (c .before .before .before .before .before .before .before .before .pre .0) (c .before .before .before .before .before .before .before .before .pre .1) refl (c .before .before .before .before .before .before .before .before .pre .3) .bit-in, c .before .pixel-byte2 .ensures, c .before .before .before .before .before .before .before .before .pre .0 .small)
 
-loop-holds : tie.Need-loop-holds Inv-loop μ-loop
-loop-holds c = remain-all _
+is-apart-requires : tie.Need-is-apart-requires
+is-apart-requires c κs =
+    let h = destination-within (row-pixel (c .before .before .before .before .before .before .before .before .pre .0) {x = c .before .before .before .before .before .before .before .before .args .i} (omega (arith, c .before .before .before .before .before .before .before .before .pre .1)) refl) .bytes-in in (
+      c .before .before .before .before .before .before .before .before .pre .1,
+      omega (arith, c .before .before .before .before .before .before .before .before .pre .0 .columns, c .before .before .before .before .before .before .before .before .pre .0 .fit .destination-fit .ranged .wide-most),
+      omega (arith, row-most (c .before .before .before .before .before .before .before .before .pre .0)),
+      omega (arith, c .before .before .before .pixel-byte .ensures, c .before .before .before .before .before .before .before .before .pre .0 .small),
+      omega (arith, bits-within (c .before .before .before .before .before .before .before .before .pre .0) (c .before .before .before .before .before .before .before .before .pre .1) refl (c .before .before .before .before .before .before .before .before .pre .3) .bit-in, c .before .pixel-byte2 .ensures, c .before .before .before .before .before .before .before .before .pre .0 .small),
+      omega arith,
+    )
 
-step-requires : tie.Need-step-requires Inv-loop μ-loop
-step-requires c κs = (rw (c .before .before .loop .inv .same) (c .before .before .before .before .before .before .before .before .before .pre .0), c .before .before .before .before .before .before .before .inks-of .ensures, c .before .before .before .before .before .pixel-byte .ensures, c .before .before .before .pixel-byte2 .ensures, c .before .loop-test .taken)
+by-windows-requires : tie.Need-by-windows-requires
+by-windows-requires c κs = record {
+  row = c .before .before .before .before .before .before .before .before .before .before .before .pre .0;
+  some = c .before .before .before .before .before .before .before .before .before .before .before .pre .1;
+  source = c .before .before .before .before .before .before .before .before .before .before .before .args .s;
+  inked = c .before .before .before .before .before .before .before .before .before .inks-of .ensures;
+  begins = c .before .before .before .before .before .before .pixel-byte .ensures;
+  byte-is = omega (arith, c .before .before .before .before .pixel-byte2 .ensures);
+  shift-is = refl;
+  apart = c .before .before .is-apart .ensures (c .before .if1 .taken);
+}
 
-add-m : tie.Need-add-m Inv-loop μ-loop
-add-m c = omega (arith, c .before .before .step .ensures .1)
+same-length : tie.Need-same-length
+same-length c = search needs
 
-loop-less : tie.Need-loop-less Inv-loop μ-loop
-loop-less c = omega (arith, c .before .before .step .ensures .0, c .before .before .step .ensures .1)
+returns : tie.Need-returns
+returns c = search needs
 
-loop-again : tie.Need-loop-again Inv-loop μ-loop
-loop-again c = remain-add (λ x. length-at (c .before .before .before .before .before .before .before .before .before .before .before .before .args .b) x (c .before .before .before .before .before .before .before .before .before .before .before .before .args .j)) (c .before .before .before .before .before .loop .inv) (c .before .before .step .result) (c .before .before .step .ensures .1) (c .before .before .step .ensures .2)
+in-order-requires : tie.Need-in-order-requires
+in-order-requires c κs = search needs
 
-same-length : tie.Need-same-length Inv-loop μ-loop
-same-length c = c .before .loop .inv .same
+same-length-2 : tie.Need-same-length-2
+same-length-2 c = search needs
 
-returns : tie.Need-returns Inv-loop μ-loop
-returns c = remain-none (c .before .loop .inv) (omega arith)
+returns-2 : tie.Need-returns-2
+returns-2 c = search needs
 
 pub bits-spec : {M : Type 1} → statement M
-bits-spec = tie.close (tie.spec Inv-loop μ-loop inks-of-requires pixel-byte-requires pixel-byte-requires-2 loop-holds step-requires add-m loop-less loop-again same-length returns)
+bits-spec =
+    tie.close
+    (tie.spec
+    inks-of-requires
+    pixel-byte-requires
+    pixel-byte-requires-2
+    add-x
+    add-q
+    is-apart-requires
+    by-windows-requires
+    same-length
+    returns
+    in-order-requires
+    same-length-2
+    returns-2)
