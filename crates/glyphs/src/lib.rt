@@ -2,7 +2,7 @@
 // window of bits that is read before the first of them, wherever in a byte it begins.
 ghost use mathlib.Core.Path.{_≡_};
 ghost use mathlib.Core.Bool.{true};
-ghost use Prim.Native.Nat.{_+_, _-_, _*_, _/_, _%_, _^_, _≤_, _<_};
+ghost use Prim.Native.Nat.{_+_, _-_, _*_, _/_, _^_, _≤_, _<_};
 ghost use lib.ListN.{length};
 ghost use Rattle.model.specs.Formats.{Depth};
 ghost use Rattle.model.specs.Rectangle.{pixelByte};
@@ -10,7 +10,7 @@ ghost use Rattle.model.specs.declared.Pattern.the-variants.{Solid};
 ghost use Rattle.model.specs.declared.Source.the-variants.{Bits};
 ghost use Rattle.laws.specs.Rows.{Row, rowPixels};
 ghost use Rattle.laws.specs.Changes.{changedRow};
-ghost use Rattle.laws.specs.Plain.{picked, markRule};
+ghost use Rattle.laws.specs.Plain.{picked, markRule, wholeEights};
 ghost use Rattle.laws.specs.Glyphs.{Inked, Window, Apart, Windowed};
 use model::Blt;
 use model::MonoSource;
@@ -110,7 +110,7 @@ fn eights(
     n: usize,
 ) -> usize
     requires { ⌜ Windowed (length (now f)) b i j n (inks .set .flip) (inks .set .keep) (inks .clear .flip) (inks .clear .keep) to q shift ⌝ }
-    ensures { λ r. ⌜ (r % 8 ≡ 0) × (r ≤ n) × (n < r + 8) × (now (f .exit) ≡ rowPixels b i j r (now (f .entry))) ⌝ }
+    ensures { λ r. ⌜ (r ≡ wholeEights n) × (now (f .exit) ≡ rowPixels b i j r (now (f .entry))) ⌝ }
 {
     let mut m = 0;
     while 8 <= n - m {
@@ -122,7 +122,8 @@ fn eights(
     m
 }
 
-// Draws all of them: by eights, and the rest by one window.
+// Draws all of them: by eights, and the rest by one window. That there are n % 8 of these tells the compiler that they are fewer than
+// eight, and it writes them out without a loop.
 fn by_windows(
     f: &mut [u8],
     b: Blt,
@@ -139,7 +140,7 @@ fn by_windows(
 {
     let d = b.destination;
     let m = eights(f, b, inks, to, q, shift, i, j, n);
-    let c = n - m;
+    let c = n % 8;
     if c == 0 {
         return;
     }

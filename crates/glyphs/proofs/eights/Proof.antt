@@ -68,7 +68,7 @@ same-length : tie.Need-same-length Inv-loop μ-loop
 same-length c = ap length (c .before .loop .inv .3) ∙ length-row _ _ _ _ _
 
 returns : tie.Need-returns Inv-loop μ-loop
-returns c = (c .before .loop .inv .1, c .before .loop .inv .0, omega (arith, c .before .loop .inv .0), c .before .loop .inv .3)
+returns c = (omega (arith, c .before .loop .inv .0, c .before .loop .inv .1), c .before .loop .inv .3)
 
 pub eights-spec : {M : Type 1} → statement M
 eights-spec =
