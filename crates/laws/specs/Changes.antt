@@ -1,12 +1,12 @@
 -- Rows in which each pixel's new value is a rule of its old one: the order of the pixels does not matter, and a row is changed
 -- from its lowest byte up. Everything is over the byte count.
-use Prim.Native.Nat.{ℕ, zero, suc, _+_, _-_, _*_, _/_, _%_, _^_, _≤_, _<_}
+use Prim.Native.Nat.{ℕ, zero, suc, _+_, _-_, _*_, _/_, _%_, _≤_, _<_}
 use mathlib.Core.Path.{_≡_, refl, sym, ap, _∙_}
 use mathlib.Core.Bool.{Bool, true, false}
 use mathlib.Core.List.{List, [], _∷_, _++_}
 use native.Mathlib.Omega.{arith}
 use native.Mathlib.Nat.{suc-mul, add-assoc, mul-div-cancel, mul-le-mul-right, mul-le-mul-left, div-mul-le-self}
-use lib.ListN.{length, getD, set, take, drop, take-append-drop, length-drop, length-set, List·getD-append}
+use lib.ListN.{length, set, take, drop, take-append-drop, length-drop, length-set, List·getD-append}
 use lib.Seq.{set-comm, set-append-left, getD-append-add, length-take-le}
 use Rattle.model.specs.Formats.{Depth}
 use Rattle.model.specs.Pixel.{readPixel, storePixel}

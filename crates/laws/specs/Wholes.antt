@@ -1,19 +1,17 @@
 -- Whole rows of a BLT, one after the other: the bytes of each lie one step along the axis of rows from those of the last.
-use Prim.Native.Nat.{ℕ, _+_, _-_, _*_, _^_, _≤_, _<_}
-use mathlib.Core.Path.{_≡_, refl, sym, ap, _∙_}
+use Prim.Native.Nat.{ℕ, _+_, _-_, _*_, _≤_, _<_}
+use mathlib.Core.Path.{_≡_, sym, _∙_}
 use mathlib.Core.List.{List}
 use native.Mathlib.Omega.{arith}
 use lib.ListN.{length}
 use Rattle.model.specs.Rectangle.{ahead, behind, columnOf, rowOf}
-use Rattle.model.specs.declared.Axis.{Axis}
 use Rattle.model.specs.declared.Blt.{Blt}
 use Rattle.model.specs.declared.Rectangle.{Rectangle}
 use Rattle.model.specs.declared.Source.the-variants.{Frame}
 use Rattle.laws.specs.Numbers.{row-lt}
-use Rattle.laws.specs.Ranges.{Matches}
 use Rattle.laws.specs.Extremes.{Follows}
 use Rattle.laws.specs.Rows.{Row, rowPixels, Band, ByRows, rows-all, rows-part, rows-next}
-use Rattle.laws.specs.Lows.{lowByte, Span, destination-span, source-span, low-on, bytes-in}
+use Rattle.laws.specs.Lows.{lowByte, destination-span, source-span, low-on}
 use Rattle.laws.specs.Moves.{Clear, clear-on}
 
 -- the pixels of a row of a BLT

@@ -6,7 +6,6 @@ use Rattle.laws.specs.Rows.{ByRows}
 use Rattle.laws.specs.Lows.{destination-span, source-span, low-asked, on-asked}
 use Rattle.laws.specs.Moves.{row-most, copy-bytes}
 use Rattle.laws.specs.Wholes.{Begins, Freely, wholes-some, wholes-first, wholes-all, wholes-row, wholes-next, destination-next, source-next, freely-next}
-use borrow.Author.Needs.{needs}
 use Rattle.blocks.proofs.copy.Statement.{statement}
 use Rattle.blocks.proofs.copy.Tie as tie
 

@@ -6,7 +6,6 @@ use Rattle.laws.specs.Rows.{ByRows}
 use Rattle.laws.specs.Lows.{destination-span, low-asked, on-asked}
 use Rattle.laws.specs.Plain.{fill-changes}
 use Rattle.laws.specs.Wholes.{Begins, wholes-some, wholes-first, wholes-all, wholes-row, wholes-next, destination-next}
-use borrow.Author.Needs.{needs}
 use Rattle.blocks.proofs.fill.Statement.{statement}
 use Rattle.blocks.proofs.fill.Tie as tie
 

@@ -1,8 +1,6 @@
 use Prim.Native.Nat.{_-_}
 use native.Mathlib.Omega.{arith}
-use native.Mathlib.Nat.{div-mul-le-self, div-le-self}
-use lib.ListN.{length}
-use Rattle.laws.specs.Pixels.{depth-least, depth-most}
+use Rattle.laws.specs.Pixels.{depth-least}
 use Rattle.laws.specs.Whole.{blended}
 use Rattle.laws.specs.Order.{Remain, remain-all, remain-none}
 use Rattle.laws.specs.Changes.{changedAt, change-next, row-room}

@@ -1,4 +1,3 @@
-use native.Mathlib.Omega.{arith}
 use Rattle.laws.specs.Pixels.{depth-last}
 use borrow.Author.Needs.{needs}
 use Rattle.writers.proofs.eights.Statement.{statement}
