@@ -2,12 +2,12 @@
 // what it makes ready is made ready once, and for no other kind.
 ghost use mathlib.Core.Path.{_≡_};
 ghost use mathlib.Core.Bool.{true};
-ghost use Prim.Native.Nat.{_/_, _%_, _≤_, _<_};
+ghost use Prim.Native.Nat.{_+_, _/_, _%_, _^_, _<_};
 ghost use lib.ListN.{length};
 ghost use Rattle.model.specs.declared.Pattern.the-variants.{Solid, Mono};
 ghost use Rattle.model.specs.declared.Source.the-variants.{Frame, Bits};
 ghost use Rattle.laws.specs.Order.{bltPixels};
-ghost use Rattle.laws.specs.Rows.{Band};
+ghost use Rattle.laws.specs.Rows.{Band, Part};
 ghost use Rattle.laws.specs.Plain.{Plain, Served};
 ghost use Rattle.laws.specs.Moves.{isFull};
 use model::Blt;
@@ -15,16 +15,50 @@ use model::MonoPattern;
 use model::MonoSource;
 use model::Rectangle;
 
-// ---- rows that a span may begin or end within
+// ---- a walk along the rows, which may begin and end within one
 
-// x, but at most y.
-fn at_most(x: usize, y: usize) -> usize
-    ensures { λ r. ⌜ (r ≤ x) × (r ≤ y) × (r < x → r ≡ y) × (0 < x → 0 < y → 0 < r) ⌝ }
+// What is next, and how many pixels are drawn.
+struct Walk {
+    column: usize,
+    row: usize,
+    drawn: usize,
+}
+
+// From pixel k on.
+fn begin(k: usize, width: usize) -> Walk
+    requires { ⌜ 0 < width ⌝ }
+    ensures { λ r. ⌜ (r .column ≡ k % width) × (r .row ≡ k / width) × (r .drawn ≡ 0) ⌝ }
 {
-    if x < y {
-        return x;
+    Walk {
+        column: rectangle::column_of(k, width),
+        row: rectangle::row_of(k, width),
+        drawn: 0,
     }
-    y
+}
+
+// How many of the pixels left are of the row that is next.
+fn part(w: Walk, width: usize, n: usize) -> usize
+    requires { ⌜ (w .drawn < n) × (w .column < width) ⌝ }
+    ensures { λ r. ⌜ Part width n (w .column) (w .drawn) r ⌝ }
+{
+    let left = n - w.drawn;
+    let within = width - w.column;
+    if left < within {
+        return left;
+    }
+    within
+}
+
+// After c pixels the first column of the row after it.
+fn on(w: Walk, c: usize) -> Walk
+    requires { ⌜ (w .row < 2 ^ 32) × (w .drawn < 2 ^ 32) × (c < 2 ^ 32) ⌝ }
+    ensures { λ r. ⌜ (r .column ≡ 0) × (r .row ≡ w .row + 1) × (r .drawn ≡ w .drawn + c) ⌝ }
+{
+    Walk {
+        column: 0,
+        row: w.row + 1,
+        drawn: w.drawn + c,
+    }
 }
 
 // ---- the kinds
@@ -37,15 +71,11 @@ fn fill_rows(f: &mut [u8], b: Blt, color: u32, k: usize, n: usize)
     let d = b.destination;
     let columns = d.columns;
     let width = columns.count;
-    let mut i = rectangle::column_of(k, width);
-    let mut j = rectangle::row_of(k, width);
-    let mut m = 0;
-    while m < n {
-        let c = at_most(n - m, width - i);
-        rows::fill(f, b, color, i, j, c);
-        i = 0;
-        j += 1;
-        m += c;
+    let mut w = begin(k, width);
+    while w.drawn < n {
+        let c = part(w, width, n);
+        rows::fill(f, b, color, w.column, w.row, c);
+        w = on(w, c);
     }
 }
 
@@ -68,15 +98,11 @@ fn blend_rows(f: &mut [u8], b: Blt, color: u32, value: u32, k: usize, n: usize)
     let d = b.destination;
     let columns = d.columns;
     let width = columns.count;
-    let mut i = rectangle::column_of(k, width);
-    let mut j = rectangle::row_of(k, width);
-    let mut m = 0;
-    while m < n {
-        let c = at_most(n - m, width - i);
-        rows::blend(f, b, color, value, i, j, c);
-        i = 0;
-        j += 1;
-        m += c;
+    let mut w = begin(k, width);
+    while w.drawn < n {
+        let c = part(w, width, n);
+        rows::blend(f, b, color, value, w.column, w.row, c);
+        w = on(w, c);
     }
 }
 
@@ -99,15 +125,11 @@ pub fn mono(f: &mut [u8], b: Blt, p: MonoPattern, value: u32, k: usize, n: usize
     let d = b.destination;
     let columns = d.columns;
     let width = columns.count;
-    let mut i = rectangle::column_of(k, width);
-    let mut j = rectangle::row_of(k, width);
-    let mut m = 0;
-    while m < n {
-        let c = at_most(n - m, width - i);
-        rows::mono(f, b, p, value, i, j, c);
-        i = 0;
-        j += 1;
-        m += c;
+    let mut w = begin(k, width);
+    while w.drawn < n {
+        let c = part(w, width, n);
+        rows::mono(f, b, p, value, w.column, w.row, c);
+        w = on(w, c);
     }
 }
 
@@ -119,15 +141,11 @@ fn copy_rows(f: &mut [u8], b: Blt, s: Rectangle, k: usize, n: usize)
     let d = b.destination;
     let columns = d.columns;
     let width = columns.count;
-    let mut i = rectangle::column_of(k, width);
-    let mut j = rectangle::row_of(k, width);
-    let mut m = 0;
-    while m < n {
-        let c = at_most(n - m, width - i);
-        moves::copy(f, b, s, i, j, c);
-        i = 0;
-        j += 1;
-        m += c;
+    let mut w = begin(k, width);
+    while w.drawn < n {
+        let c = part(w, width, n);
+        moves::copy(f, b, s, w.column, w.row, c);
+        w = on(w, c);
     }
 }
 
@@ -150,15 +168,11 @@ pub fn combine(f: &mut [u8], b: Blt, color: u32, s: Rectangle, k: usize, n: usiz
     let d = b.destination;
     let columns = d.columns;
     let width = columns.count;
-    let mut i = rectangle::column_of(k, width);
-    let mut j = rectangle::row_of(k, width);
-    let mut m = 0;
-    while m < n {
-        let c = at_most(n - m, width - i);
-        mixes::combine(f, b, color, s, i, j, c);
-        i = 0;
-        j += 1;
-        m += c;
+    let mut w = begin(k, width);
+    while w.drawn < n {
+        let c = part(w, width, n);
+        mixes::combine(f, b, color, s, w.column, w.row, c);
+        w = on(w, c);
     }
 }
 
@@ -170,15 +184,11 @@ pub fn bits(f: &mut [u8], b: Blt, color: u32, s: MonoSource, k: usize, n: usize)
     let d = b.destination;
     let columns = d.columns;
     let width = columns.count;
-    let mut i = rectangle::column_of(k, width);
-    let mut j = rectangle::row_of(k, width);
-    let mut m = 0;
-    while m < n {
-        let c = at_most(n - m, width - i);
-        glyphs::bits(f, b, color, s, i, j, c);
-        i = 0;
-        j += 1;
-        m += c;
+    let mut w = begin(k, width);
+    while w.drawn < n {
+        let c = part(w, width, n);
+        glyphs::bits(f, b, color, s, w.column, w.row, c);
+        w = on(w, c);
     }
 }
 
@@ -190,14 +200,10 @@ pub fn general(f: &mut [u8], b: Blt, k: usize, n: usize)
     let d = b.destination;
     let columns = d.columns;
     let width = columns.count;
-    let mut i = rectangle::column_of(k, width);
-    let mut j = rectangle::row_of(k, width);
-    let mut m = 0;
-    while m < n {
-        let c = at_most(n - m, width - i);
-        rows::general(f, b, i, j, c);
-        i = 0;
-        j += 1;
-        m += c;
+    let mut w = begin(k, width);
+    while w.drawn < n {
+        let c = part(w, width, n);
+        rows::general(f, b, w.column, w.row, c);
+        w = on(w, c);
     }
 }

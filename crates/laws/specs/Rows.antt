@@ -27,7 +27,7 @@ use Rattle.model.specs.declared.SourceValue.{SourceValue}
 use Rattle.model.specs.declared.SourceValue.the-variants.{Transparent, Value}
 use Rattle.laws.specs.Pixels.{length-store}
 use Rattle.laws.specs.Order.{inOrder, bltPixels, order-same, order-length, Remain, remain-all, remain-add}
-use Rattle.laws.specs.Ranges.{Matches, FitBits, FitSource, FitBlt}
+use Rattle.laws.specs.Ranges.{Matches, FitBits, FitSource, FitBlt, area-most}
 use Rattle.laws.specs.Numbers.{row-lt, column-add, row-add, column-next, row-next}
 use Rattle.laws.specs.Extremes.{Reached, Within, within, byte-on, Along, along, along-at}
 
@@ -250,31 +250,46 @@ rows-all {b = b} fit {k} frame =
       row = λ l. rw z;
     }
 
-module _ {b : Blt} {k n : ℕ} {first : List ℕ} {i j m : ℕ} {frame : List ℕ} (r : ByRows b k n first i j m frame) where
-  module _ (l : m < n) {c : ℕ} (p : c ≤ b .destination .columns .count - i) where
-    -- c pixels from there on, of the same row
-    pub rows-part : Band (length first) b k n → Row (length frame) b i j c
-    rows-part a =
-        rw (r .remain .same)
-        (record {
-          fit = a .fit;
-          columns = omega (arith, r .narrow);
-          row = rw (r .row l) (row-lt _ (b .destination .rows .count) (k + m) (a .fit .destination-fit .ranged .wide) (omega (arith, a .inside)));
-          small = a .small;
-        })
+-- of n pixels in rows of a width, m of which are drawn, the next c are of one row, from column i: up to its end, or all that are left
+pub record Part (width n i m c : ℕ) : Type 0 where
+  pub some : 0 < c
+  pub within : c ≤ width - i
+  pub left : c ≤ n - m
+  pub whole : c < n - m → c ≡ width - i
 
-    -- and after them the next row, or none
-    pub rows-next : c ≤ n - m → (c < n - m → c ≡ b .destination .columns .count - i) → {next : List ℕ} → next ≡ rowPixels b i j c frame
-        → ByRows b k n first 0 (j + 1) (m + c) next
-    rows-next q whole {next} e =
-        let w = b .destination .columns .count in
-        let at = k + m in
-        let drawn : next ≡ bltPixels b at c frame =
-        e ∙ rw (r .column l, r .row l) (row-pixels b at c frame (omega (arith, r .column l, r .narrow))) in
-        let on : m + c < n → k + (m + c) ≡ at + (w - at % w) = λ t. omega (arith, whole (omega arith), r .column l) in
-        record {
-          remain = remain-add (length-drawn b) (r .remain) c (omega arith) drawn;
-          narrow = omega (arith, r .narrow);
-          column = λ t. rw (on t) (sym (column-next w at (omega (arith, r .narrow))));
-          row = λ t. rw (on t, r .row l) (sym (row-next w at (omega (arith, r .narrow))));
-        }
+module _ {b : Blt} {k n : ℕ} {first : List ℕ} {i j m : ℕ} {frame : List ℕ} (r : ByRows b k n first i j m frame)
+    {c : ℕ} (p : Part (b .destination .columns .count) n i m c) where
+  more : m < n
+  more = omega (arith, p .some, p .left)
+
+  -- they are a row's
+  pub rows-part : Band (length first) b k n → Row (length frame) b i j c
+  rows-part a =
+      rw (r .remain .same)
+      (record {
+        fit = a .fit;
+        columns = omega (arith, r .narrow, p .within);
+        row = rw (r .row more) (row-lt _ (b .destination .rows .count) (k + m) (a .fit .destination-fit .ranged .wide) (omega (arith, more, a .inside)));
+        small = a .small;
+      })
+
+  -- and after them comes the next row, or none
+  pub rows-next : {next : List ℕ} → next ≡ rowPixels b i j c frame → ByRows b k n first 0 (j + 1) (m + c) next
+  rows-next {next} e =
+      let w = b .destination .columns .count in
+      let at = k + m in
+      let drawn : next ≡ bltPixels b at c frame =
+      e ∙ rw (r .column more, r .row more) (row-pixels b at c frame (omega (arith, r .column more, r .narrow, p .within))) in
+      let on : m + c < n → k + (m + c) ≡ at + (w - at % w) = λ t. omega (arith, p .whole (omega arith), r .column more) in
+      record {
+        remain = remain-add (length-drawn b) (r .remain) c (omega (arith, p .left, more)) drawn;
+        narrow = omega (arith, r .narrow);
+        column = λ t. rw (on t) (sym (column-next w at (omega (arith, r .narrow))));
+        row = λ t. rw (on t, r .row more) (sym (row-next w at (omega (arith, r .narrow))));
+      }
+
+  -- what the code that goes on to it asks
+  pub rows-on : Band (length first) b k n → (j < 2 ^ 32) × (m < 2 ^ 32) × (c < 2 ^ 32)
+  rows-on a =
+      let ranged = a .fit .destination-fit .ranged in
+      (omega (arith, rows-part a .row, ranged .high-most), omega (arith, more, a .inside, area-most ranged), omega (arith, p .within, ranged .wide-most))

@@ -10,7 +10,7 @@ use Rattle.model.specs.declared.Rectangle.{Rectangle}
 use Rattle.model.specs.declared.Source.the-variants.{Frame}
 use Rattle.laws.specs.Numbers.{row-lt}
 use Rattle.laws.specs.Extremes.{Follows}
-use Rattle.laws.specs.Rows.{Row, rowPixels, Band, ByRows, rows-all, rows-part, rows-next}
+use Rattle.laws.specs.Rows.{Row, rowPixels, Band, ByRows, Part, rows-all, rows-part, rows-next}
 use Rattle.laws.specs.Lows.{lowByte, destination-span, source-span, low-on}
 use Rattle.laws.specs.Moves.{Clear, clear-on}
 
@@ -44,20 +44,24 @@ wholes-first {b = b} {k} a l =
       small = a .small;
     }
 
+-- and any of them, where so many pixels are left
+whole-part : {size : ℕ} {b : Blt} {k n : ℕ} → Band size b k n → (m : ℕ) → wide b ≤ n - m → Part (wide b) n 0 m (wide b)
+whole-part a m l = record { some = wholes-some a; within = omega arith; left = l; whole = λ p. omega arith }
+
 module _ {b : Blt} {k n : ℕ} {first : List ℕ} {j m : ℕ} {frame : List ℕ} (r : ByRows b k n first 0 j m frame)
     (a : Band (length first) b k n) (l : wide b ≤ n - m) where
   -- the row that is next
   pub wholes-row : Row (length frame) b 0 j (wide b)
-  wholes-row = rows-part r (omega (arith, wholes-some a)) (omega arith) a
+  wholes-row = rows-part r (whole-part a m l) a
 
   module _ {next : List ℕ} (e : next ≡ rowPixels b 0 j (wide b) frame) where
     -- after it
     pub wholes-next : ByRows b k n first 0 (j + 1) (m + wide b) next
-    wholes-next = rows-next r (omega (arith, wholes-some a)) (omega arith) l (λ p. omega arith) e
+    wholes-next = rows-next r (whole-part a m l) e
 
     module _ (more : wide b ≤ n - (m + wide b)) where
       after : Row (length frame) b 0 (j + 1) (wide b)
-      after = rw (wholes-next .remain .same ∙ sym (r .remain .same)) at (rows-part wholes-next (omega (arith, wholes-some a)) {c = wide b} (omega arith) a)
+      after = rw (wholes-next .remain .same ∙ sym (r .remain .same)) at (rows-part wholes-next (whole-part a (m + wide b) more) a)
 
       to-on : {to to' : ℕ} → to ≡ lowByte (b .destination) 0 j (wide b) → Follows (b .destination .rows) to to'
           → (to' ≡ lowByte (b .destination) 0 (j + 1) (wide b)) × (to' + behind (b .destination .rows) 1 ≡ to + ahead (b .destination .rows) 1)
