@@ -4,13 +4,11 @@ ghost use mathlib.Core.Path.{_≡_};
 ghost use mathlib.Core.Bool.{true};
 ghost use Prim.Native.Nat.{_+_, _-_, _*_, _/_, _^_, _≤_, _<_};
 ghost use lib.ListN.{length};
-ghost use Rattle.model.specs.Formats.{Depth};
 ghost use Rattle.model.specs.Rectangle.{pixelByte};
 ghost use Rattle.model.specs.declared.Pattern.the-variants.{Solid};
 ghost use Rattle.model.specs.declared.Source.the-variants.{Bits};
 ghost use Rattle.laws.specs.Rows.{Row, rowPixels};
-ghost use Rattle.laws.specs.Changes.{changedRow};
-ghost use Rattle.laws.specs.Plain.{picked, markRule, wholeEights};
+ghost use Rattle.laws.specs.Plain.{wholeEights};
 ghost use Rattle.laws.specs.Glyphs.{Inked, Window, Apart, Windowed};
 use model::Blt;
 use model::MonoSource;
@@ -40,17 +38,6 @@ fn inks_of(b: Blt, color: u32, s: MonoSource) -> Inks
         set: foreground,
         clear: background,
     }
-}
-
-// The one for the bit of a byte that is number x of its row.
-fn pick(byte: u32, x: usize, inks: Inks) -> Blend
-    ensures { λ r. ⌜ (r .flip ≡ picked byte x (inks .set .flip) (inks .clear .flip)) × (r .keep ≡ picked byte x (inks .set .keep) (inks .clear .keep)) ⌝ }
-{
-    let by = 7 - x % 8;
-    if (byte >> by) % 2 == 1 {
-        return inks.set;
-    }
-    inks.clear
 }
 
 // ---- windows of bits
@@ -83,19 +70,6 @@ fn is_apart(negative: bool, depth: usize, n: usize, to: usize, q: usize, shift: 
 
 // ---- rows by windows
 
-// Applies to c pixels from byte `at` up the blends that their bits say.
-fn few(f: &mut [u8], depth: usize, at: usize, bits: u32, inks: Inks, c: usize)
-    requires { ⌜ (Depth depth) × (at + c * depth ≤ length (now f)) ⌝ }
-    ensures { λ _. ⌜ now (f .exit) ≡ changedRow depth (markRule bits (inks .set .flip) (inks .set .keep) (inks .clear .flip) (inks .clear .keep)) c at (now (f .entry)) ⌝ }
-{
-    let mut k = 0;
-    while k < c {
-        let ink = pick(bits, k, inks);
-        pixel::apply(f, depth, at + k * depth, ink);
-        k += 1;
-    }
-}
-
 // Draws the first of n pixels of row j, from column i, as many as make whole eights, and says how many. They lie from byte `to` up,
 // and their bits from bit number `shift` of byte q on.
 fn eights(
@@ -122,8 +96,7 @@ fn eights(
     m
 }
 
-// Draws all of them: by eights, and the rest by one window. That there are n % 8 of these tells the compiler that they are fewer than
-// eight, and it writes them out without a loop.
+// Draws all of them: by eights, and the rest, n % 8, by one window.
 fn by_windows(
     f: &mut [u8],
     b: Blt,
@@ -145,7 +118,7 @@ fn by_windows(
         return;
     }
     let bits = window(f, q + m / 8, shift, c);
-    few(f, d.depth, to + m * d.depth, bits, inks, c);
+    writers::few(f, d.depth, to + m * d.depth, bits, inks.set, inks.clear, c);
 }
 
 // ---- rows
@@ -172,7 +145,7 @@ fn in_order(
         let at = rectangle::along(columns, to, m);
         let x = s.skip + (i + m);
         let byte = pixel::get1(f, from + x / 8);
-        let ink = pick(byte, x, inks);
+        let ink = writers::choose(byte, x, inks.set, inks.clear);
         pixel::apply(f, d.depth, at, ink);
         m += 1;
     }

@@ -5,7 +5,7 @@ use mathlib.Core.Bool.{Bool, true, false, not, _||_}
 use mathlib.Core.List.{List}
 use mathlib.Core.Logic.{_⊎_, inl, inr, ⊎-elim}
 use native.Mathlib.Omega.{arith}
-use native.Mathlib.Nat.{mod-eq-of-lt, mod-mod, add-mul}
+use native.Mathlib.Nat.{mod-eq-of-lt, mod-mod, add-mul, div-mul-le-self}
 use lib.ListN.{length}
 use Rattle.model.specs.Bits.{bit, bit-cases}
 use borrow.Author.Tests.{eqb-true}
@@ -231,6 +231,13 @@ mark-low depth {flip1} {keep1} {flip0} {keep0} {f1} {k1} {f0} {k0} one zero b bi
 abbrev pub wholeEights : ℕ → ℕ
 wholeEights n = n - n % 8
 
+-- those and the rest in a row of so many bytes
+pub eights-room : (depth size : ℕ) → let n = size / depth in wholeEights n * depth + n % 8 * depth ≤ size
+eights-room depth size =
+    let n = size / depth in
+    let all : wholeEights n + n % 8 ≡ n = omega arith in
+    omega (arith, rw all at (add-mul (wholeEights n) (n % 8) depth), div-mul-le-self size depth)
+
 module _ (depth bits flip1 keep1 flip0 keep0 : ℕ) where
   abbrev rule : ℕ → ℕ → ℕ
   rule = markRule bits flip1 keep1 flip0 keep0
@@ -261,6 +268,11 @@ module _ (depth bits flip1 keep1 flip0 keep0 : ℕ) where
         let z : 0 + w ≡ w = omega arith in
         let all : w + (n - w) ≡ n = omega arith in
         f ∙ rw e (rw (z, all) at (order-add (changedAt depth rule 0) w 0 (n - w) row))
+
+    -- by their bits from the first on, where w makes whole eights
+    pub then-few : {c at : ℕ} → w % 8 ≡ 0 → n - w ≡ c → at ≡ w * depth → {next : List ℕ} → next ≡ changedRow depth rule c at middle
+        → next ≡ changedRow depth rule n 0 row
+    then-few {c} {at} v k a f = then-rest (rw k (f ∙ chunk-at c w at v a middle))
 
 -- ---- mono patterns
 

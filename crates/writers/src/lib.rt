@@ -375,19 +375,28 @@ fn eights(row: &mut [u8], depth: usize, bits: u32, set: Blend, clear: Blend)
     eights4(row, bits, set, clear);
 }
 
-// Applies them to the pixels of a row from number k on.
-fn rest(row: &mut [u8], depth: usize, k: usize, bits: u32, set: Blend, clear: Blend)
-    requires { ⌜ (Depth depth) × (k ≤ length (now row) / depth) ⌝ }
-    ensures { λ _. ⌜ now (row .exit) ≡ inOrder (changedAt depth (markRule bits (set .flip) (set .keep) (clear .flip) (clear .keep)) 0) k (length (now (row .entry)) / depth - k) (now (row .entry)) ⌝ }
+// The blend that the bit of pixel i says.
+pub fn choose(bits: u32, i: usize, set: Blend, clear: Blend) -> Blend
+    ensures { λ r. ⌜ (r .flip ≡ picked bits i (set .flip) (clear .flip)) × (r .keep ≡ picked bits i (set .keep) (clear .keep)) ⌝ }
 {
-    let n = row.len() / depth - k;
-    let mut m = 0;
-    while m < n {
-        let i = k + m;
-        let flip = pick(bits, i, set.flip, clear.flip);
-        let keep = pick(bits, i, set.keep, clear.keep);
-        pixel::apply(row, depth, i * depth, Blend { flip, keep });
-        m += 1;
+    let by = 7 - i % 8;
+    if (bits >> by) % 2 == 1 {
+        return set;
+    }
+    clear
+}
+
+// Applies to c pixels from a byte on the blends that their bits say, one by one. Callers say c as a remainder by eight, so that the
+// compiler knows that they are few and makes no wide loop for them.
+pub fn few(row: &mut [u8], depth: usize, at: usize, bits: u32, set: Blend, clear: Blend, c: usize)
+    requires { ⌜ (Depth depth) × (at + c * depth ≤ length (now row)) ⌝ }
+    ensures { λ _. ⌜ now (row .exit) ≡ changedRow depth (markRule bits (set .flip) (set .keep) (clear .flip) (clear .keep)) c at (now (row .entry)) ⌝ }
+{
+    let mut k = 0;
+    while k < c {
+        let b = choose(bits, k, set, clear);
+        pixel::apply(row, depth, at + k * depth, b);
+        k += 1;
     }
 }
 
@@ -398,5 +407,6 @@ pub fn marks(row: &mut [u8], depth: usize, bits: u32, set: Blend, clear: Blend)
 {
     let n = row.len() / depth;
     eights(row, depth, bits, set, clear);
-    rest(row, depth, n - n % 8, bits, set, clear);
+    let c = n % 8;
+    few(row, depth, (n - c) * depth, bits, set, clear, c);
 }

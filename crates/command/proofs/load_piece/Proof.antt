@@ -4,7 +4,6 @@ use mathlib.Core.List.{List}
 use native.Mathlib.Omega.{arith}
 use borrow.Author.Needs.{needs}
 use lib.ListN.{drop}
-use denote.Ref.{now}
 use Rattle.model.specs.Command.{wordRegisters, loadWords, loaded}
 use Rattle.model.specs.declared.Kind.the-variants.{Blt}
 use Rattle.command.specs.Pieces.{InPiece}

@@ -34,8 +34,8 @@ add-get1 c = omega (arith, bits-within (c .before .before .before .before .befor
 get1-requires : tie.Need-get1-requires Inv-loop μ-loop
 get1-requires c κs = omega (arith, bits-within (c .before .before .before .before .before .before .before .before .pre .0) (c .before .before .before .before .before .loop-test .taken) (c .before .before .before .before .before .before .loop .inv .1 .same) (c .before .before .before .before .before .before .before .before .pre .1 .bits) .bit-in, c .before .before .before .before .before .before .before .before .pre .3)
 
-pick-requires : tie.Need-pick-requires Inv-loop μ-loop
-pick-requires c κs = search needs
+choose-requires : tie.Need-choose-requires Inv-loop μ-loop
+choose-requires c κs = search needs
 
 apply-requires : tie.Need-apply-requires Inv-loop μ-loop
 apply-requires c κs = row-in (c .before .before .before .before .before .before .before .before .before .before .before .pre .0) (c .before .before .before .before .before .before .before .before .loop-test .taken) (c .before .before .before .before .before .before .before .before .before .loop .inv .1 .same) (row-at (c .before .before .before .before .before .before .before .before .before .before .before .pre .0) (c .before .before .before .before .before .before .before .before .loop-test .taken) (c .before .before .before .before .before .before .before .before .before .loop .inv .1 .same) (c .before .before .before .before .before .before .before .before .before .before .before .pre .2) (c .before .before .before .before .before .along .ensures))
@@ -50,7 +50,7 @@ loop-again : tie.Need-loop-again Inv-loop μ-loop
 loop-again c = (
   (λ x. c .slice-known2 .given x .fits),
   remain-next (λ x. length-at (c .before .before .before .before .before .before .before .before .before .before .before .before .before .before .args .b) x (c .before .before .before .before .before .before .before .before .before .before .before .before .before .before .args .j)) (c .before .before .before .before .before .before .before .before .before .before .before .before .loop .inv .1) (c .before .before .before .before .before .before .before .before .before .before .before .loop-test .taken)
-      ((rw (c .before .before .before .before .pick .ensures .0, c .before .before .before .before .pick .ensures .1, c .before .before .before .before .before .get1 .ensures) at (c .before .before .apply .ensures))
+      ((rw (c .before .before .before .before .choose .ensures .0, c .before .before .before .before .choose .ensures .1, c .before .before .before .before .before .get1 .ensures) at (c .before .before .apply .ensures))
       ∙ bit-drawn (c .before .before .before .before .before .before .before .before .before .before .before .before .before .before .pre .0) (c .before .before .before .before .before .before .before .before .before .before .before .before .before .before .pre .1) (c .before .before .before .before .before .before .before .before .before .before .before .before .before .before .pre .3) (c .before .before .before .before .before .before .before .before .before .before .before .loop-test .taken) (row-at (c .before .before .before .before .before .before .before .before .before .before .before .before .before .before .pre .0) (c .before .before .before .before .before .before .before .before .before .before .before .loop-test .taken) (c .before .before .before .before .before .before .before .before .before .before .before .before .loop .inv .1 .same) (c .before .before .before .before .before .before .before .before .before .before .before .before .before .before .pre .2) (c .before .before .before .before .before .before .before .before .along .ensures)) _ (c .before .before .before .before .before .before .before .before .before .before .before .before .loop .inv .0)),
 )
 
@@ -72,7 +72,7 @@ in-order-spec =
     add-x-2
     add-get1
     get1-requires
-    pick-requires
+    choose-requires
     apply-requires
     add-m
     loop-less

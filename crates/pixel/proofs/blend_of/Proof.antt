@@ -1,5 +1,3 @@
-use mathlib.Core.Path.{_∙_}
-use Rattle.laws.specs.Whole.{flipOf, keepOf}
 use borrow.Author.Needs.{needs}
 use Rattle.pixel.proofs.blend_of.Statement.{statement}
 use Rattle.pixel.proofs.blend_of.Tie as tie

@@ -1,6 +1,4 @@
-use Prim.Native.Nat.{_≤_}
 use borrow.Author.Tests.{lt-ltb, le-ltb}
-use native.Mathlib.Omega.{arith}
 use Rattle.pixel.proofs.pattern_word.Statement.{statement}
 use Rattle.pixel.proofs.pattern_word.Tie as tie
 

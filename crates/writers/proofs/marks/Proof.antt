@@ -1,9 +1,10 @@
 use Prim.Native.Nat.{_/_}
+use mathlib.Core.Path.{refl}
 use lib.ListN.{length}
 use native.Mathlib.Omega.{arith}
 use borrow.Author.Needs.{needs}
 use Rattle.laws.specs.Pixels.{depth-least}
-use Rattle.laws.specs.Plain.{same-row, then-rest}
+use Rattle.laws.specs.Plain.{eights-room, same-row, then-few}
 use Rattle.writers.proofs.marks.Statement.{statement}
 use Rattle.writers.proofs.marks.Tie as tie
 
@@ -13,19 +14,26 @@ div-n c = omega (arith, depth-least (c .before .pre))
 eights-requires : tie.Need-eights-requires
 eights-requires c κs = search needs
 
-sub-rest : tie.Need-sub-rest
-sub-rest c = search needs
+sub-few : tie.Need-sub-few
+sub-few c = search needs
 
-rest-requires : tie.Need-rest-requires
-rest-requires c κs = (c .before .before .before .before .before .before .pre, rw (same-row (c .before .before .before .before .before .before .args .depth) (c .before .before .before .before .before .before .args .bits) (c .before .before .before .before .before .before .args .set .flip) (c .before .before .before .before .before .before .args .set .keep) (c .before .before .before .before .before .before .args .clear .flip) (c .before .before .before .before .before .before .args .clear .keep) (c .before .before .before .before .before .before .args .row .now) {n = length (c .before .before .before .before .before .before .args .row .now) / c .before .before .before .before .before .before .args .depth} (omega arith) (c .before .before .before .eights .ensures)) (omega arith))
+mul-few : tie.Need-mul-few
+mul-few c = omega (arith, eights-room (c .before .before .before .before .before .before .args .depth) (length (c .before .before .before .before .before .before .args .row .now)))
+
+few-requires : tie.Need-few-requires
+few-requires c κs = (
+  c .before .before .before .before .before .before .pre,
+  rw (same-row (c .before .before .before .before .before .before .args .depth) (c .before .before .before .before .before .before .args .bits) (c .before .before .before .before .before .before .args .set .flip) (c .before .before .before .before .before .before .args .set .keep) (c .before .before .before .before .before .before .args .clear .flip) (c .before .before .before .before .before .before .args .clear .keep) (c .before .before .before .before .before .before .args .row .now) {n = length (c .before .before .before .before .before .before .args .row .now) / c .before .before .before .before .before .before .args .depth} (omega arith) (c .before .before .before .eights .ensures))
+      (eights-room (c .before .before .before .before .before .before .args .depth) (length (c .before .before .before .before .before .before .args .row .now))),
+)
 
 same-length : tie.Need-same-length
 same-length c = search needs
 
 returns : tie.Need-returns
 returns c =
-    then-rest (c .before .before .before .before .before .before .before .before .before .args .depth) (c .before .before .before .before .before .before .before .before .before .args .bits) (c .before .before .before .before .before .before .before .before .before .args .set .flip) (c .before .before .before .before .before .before .before .before .before .args .set .keep) (c .before .before .before .before .before .before .before .before .before .args .clear .flip) (c .before .before .before .before .before .before .before .before .before .args .clear .keep) (c .before .before .before .before .before .before .before .before .before .args .row .now) (omega arith) (c .before .before .before .before .before .before .eights .ensures)
-    (rw (same-row (c .before .before .before .before .before .before .before .before .before .args .depth) (c .before .before .before .before .before .before .before .before .before .args .bits) (c .before .before .before .before .before .before .before .before .before .args .set .flip) (c .before .before .before .before .before .before .before .before .before .args .set .keep) (c .before .before .before .before .before .before .before .before .before .args .clear .flip) (c .before .before .before .before .before .before .before .before .before .args .clear .keep) (c .before .before .before .before .before .before .before .before .before .args .row .now) {n = length (c .before .before .before .before .before .before .before .before .before .args .row .now) / c .before .before .before .before .before .before .before .before .before .args .depth} (omega arith) (c .before .before .before .before .before .before .eights .ensures)) at (c .before .before .rest .ensures))
+    then-few (c .before .before .before .before .before .before .before .before .before .args .depth) (c .before .before .before .before .before .before .before .before .before .args .bits) (c .before .before .before .before .before .before .before .before .before .args .set .flip) (c .before .before .before .before .before .before .before .before .before .args .set .keep) (c .before .before .before .before .before .before .before .before .before .args .clear .flip) (c .before .before .before .before .before .before .before .before .before .args .clear .keep) (c .before .before .before .before .before .before .before .before .before .args .row .now) (omega arith) (c .before .before .before .before .before .before .eights .ensures) (omega arith) (omega arith) refl (c .before .before .few .ensures)
 
 pub marks-spec : {M : Type 1} → statement M
-marks-spec = tie.close (tie.spec div-n eights-requires sub-rest rest-requires same-length returns)
+marks-spec =
+    tie.close (tie.spec div-n eights-requires sub-few mul-few few-requires same-length returns)

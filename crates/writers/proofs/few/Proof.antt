@@ -5,20 +5,20 @@ use native.Mathlib.Omega.{arith}
 use Rattle.laws.specs.Order.{Remain, remain-all, remain-none}
 use Rattle.laws.specs.Changes.{changedAt, change-next, step-le}
 use Rattle.laws.specs.Plain.{markRule}
-use Rattle.glyphs.proofs.few.Statement.{statement}
-use Rattle.glyphs.proofs.few.Tie as tie
+use Rattle.writers.proofs.few.Statement.{statement}
+use Rattle.writers.proofs.few.Tie as tie
 
 abbrev Inv-loop : tie.InvT-loop
-Inv-loop f₀ depth at bits inks c k₀ f k = Remain (changedAt depth (markRule bits (inks .set .flip) (inks .set .keep) (inks .clear .flip) (inks .clear .keep)) at) 0 c f₀ k f
+Inv-loop row₀ depth at bits set clear c k₀ row k = Remain (changedAt depth (markRule bits (set .flip) (set .keep) (clear .flip) (clear .keep)) at) 0 c row₀ k row
 
 abbrev μ-loop : tie.MeasureT-loop
-μ-loop f₀ depth at bits inks c k₀ f k = c - k
+μ-loop row₀ depth at bits set clear c k₀ row k = c - k
 
 loop-holds : tie.Need-loop-holds Inv-loop μ-loop
 loop-holds c = remain-all _
 
-pick-requires : tie.Need-pick-requires Inv-loop μ-loop
-pick-requires c κs = search needs
+choose-requires : tie.Need-choose-requires Inv-loop μ-loop
+choose-requires c κs = search needs
 
 mul-apply : tie.Need-mul-apply Inv-loop μ-loop
 mul-apply c = omega (arith, step-le (c .before .before .before .before .before .args .depth) (c .before .before .before .loop .k) (c .before .before .before .before .before .args .c) (c .before .before .loop-test .taken), c .before .before .before .before .before .pre .1)
@@ -36,7 +36,7 @@ loop-less : tie.Need-loop-less Inv-loop μ-loop
 loop-less c = omega arith
 
 loop-again : tie.Need-loop-again Inv-loop μ-loop
-loop-again c = change-next (c .before .before .before .before .before .before .before .before .args .depth) (markRule (c .before .before .before .before .before .before .before .before .args .bits) (c .before .before .before .before .before .before .before .before .args .inks .set .flip) (c .before .before .before .before .before .before .before .before .args .inks .set .keep) (c .before .before .before .before .before .before .before .before .args .inks .clear .flip) (c .before .before .before .before .before .before .before .before .args .inks .clear .keep)) (c .before .before .before .before .before .before .before .before .args .at) (c .before .before .before .before .before .before .loop .inv) (c .before .before .before .before .before .loop-test .taken) refl (rw (c .before .before .before .before .pick .ensures .0, c .before .before .before .before .pick .ensures .1) at (c .before .before .apply .ensures))
+loop-again c = change-next (c .before .before .before .before .before .before .before .before .args .depth) (markRule (c .before .before .before .before .before .before .before .before .args .bits) (c .before .before .before .before .before .before .before .before .args .set .flip) (c .before .before .before .before .before .before .before .before .args .set .keep) (c .before .before .before .before .before .before .before .before .args .clear .flip) (c .before .before .before .before .before .before .before .before .args .clear .keep)) (c .before .before .before .before .before .before .before .before .args .at) (c .before .before .before .before .before .before .loop .inv) (c .before .before .before .before .before .loop-test .taken) refl (rw (c .before .before .before .before .choose .ensures .0, c .before .before .before .before .choose .ensures .1) at (c .before .before .apply .ensures))
 
 same-length : tie.Need-same-length Inv-loop μ-loop
 same-length c = c .before .loop .inv .same
@@ -51,7 +51,7 @@ few-spec =
     Inv-loop
     μ-loop
     loop-holds
-    pick-requires
+    choose-requires
     mul-apply
     add-apply
     apply-requires
