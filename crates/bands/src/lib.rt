@@ -17,7 +17,7 @@ use model::Rectangle;
 
 // ---- a walk along the rows, which may begin and end within one
 
-// What is next, and how many pixels are drawn.
+// The column and the row that are next, and how many pixels are drawn.
 struct Walk {
     column: usize,
     row: usize,
@@ -63,7 +63,7 @@ fn on(w: Walk, c: usize) -> Walk
 
 // ---- the kinds
 
-// The same row by row.
+// What whole rows leave of a fill, row by row.
 fn fill_rows(f: &mut [u8], b: Blt, color: u32, k: usize, n: usize)
     requires { ⌜ (Band (length (now f)) b k n) × (b .pattern ≡ Solid color) × (b .code ≡ 240) × (Served (b .code) (b .source)) ⌝ }
     ensures { λ _. ⌜ now (f .exit) ≡ bltPixels b k n (now (f .entry)) ⌝ }
@@ -90,7 +90,7 @@ pub fn fill(f: &mut [u8], b: Blt, color: u32, k: usize, n: usize)
     }
 }
 
-// The same row by row.
+// What whole rows leave of one blend, row by row.
 fn blend_rows(f: &mut [u8], b: Blt, color: u32, value: u32, k: usize, n: usize)
     requires { ⌜ (Band (length (now f)) b k n) × (b .pattern ≡ Solid color) × (Plain (b .code) (b .source) value) ⌝ }
     ensures { λ _. ⌜ now (f .exit) ≡ bltPixels b k n (now (f .entry)) ⌝ }
@@ -133,7 +133,7 @@ pub fn mono(f: &mut [u8], b: Blt, p: MonoPattern, value: u32, k: usize, n: usize
     }
 }
 
-// The same row by row.
+// What whole rows leave of a copy, row by row.
 fn copy_rows(f: &mut [u8], b: Blt, s: Rectangle, k: usize, n: usize)
     requires { ⌜ (Band (length (now f)) b k n) × (b .source ≡ Frame s) × (b .code ≡ 204) × (isFull (b .pattern) ≡ true) ⌝ }
     ensures { λ _. ⌜ now (f .exit) ≡ bltPixels b k n (now (f .entry)) ⌝ }
