@@ -1,16 +1,20 @@
--- "A BLT pixel" (document 01), with mono sources (W1 of document 02): the pixels of a BLT, in the order in which they are drawn.
+-- "A BLT pixel" (document 01), with mono sources and colour patterns (W1 and W4 of document 02): the pixels of a BLT, in the order in
+-- which they are drawn.
 use Prim.Native.Nat.{ℕ, _+_, _-_, _/_}
-use mathlib.Core.Bool.{Bool, false, _||_}
+use mathlib.Core.Bool.{Bool, false, _&&_, _||_}
 use mathlib.Core.List.{List}
 use Rattle.model.specs.Choice.{_=?_, if_then_else_}
-use Rattle.model.specs.Registers.{word, SRC-COLOR-FG, SRC-COLOR-BG, PAT-COLOR-0, PAT-COLOR-1, PAT-DATA-0, PAT-DATA-1, formatCode, sourceInversion, sourceTransparency, patternTransparency, patternMode, rasterCode, patternRow, patternColumn, destinationOffset, sourceSkip, sourceOffset, sourceStride, destinationStride, width, height, xNegative, yNegative, sourceMode, sourceSelect}
+use Rattle.model.specs.Registers.{word, SRC-COLOR-FG, SRC-COLOR-BG, PAT-COLOR-0, PAT-COLOR-1, PAT-DATA-0, PAT-DATA-1, formatCode, sourceInversion, sourceTransparency, patternTransparency, patternMode, rasterCode, patternRow, patternColumn, channel3Row, channel3Column, channel3Enable, channel3PatternMode, destinationOffset, sourceSkip, sourceOffset, sourceStride, destinationStride, width, height, xNegative, yNegative, sourceMode, sourceSelect}
 use Rattle.model.specs.Formats.{formatOf, depthOf}
 use Rattle.model.specs.Rectangle.{pixelByte, columnOf, rowOf, rectangleOutside}
 use Rattle.model.specs.Pixel.{readPixel}
 use Rattle.model.specs.Pattern.{patternBit, patternIndex}
+use Rattle.model.specs.Lookup.{tileColor}
 use Rattle.model.specs.Expansion.{byteColumn, sourceBit, expand}
 use Rattle.model.specs.Operands.{drawOperands}
 use Rattle.model.specs.declared.Blt.{Blt}
+use Rattle.model.specs.declared.ColorPattern.{ColorPattern}
+use Rattle.model.specs.declared.ColorPattern.the-variants.{Absent, Tile}
 use Rattle.model.specs.declared.MonoPattern.{MonoPattern}
 use Rattle.model.specs.declared.MonoSource.{MonoSource}
 use Rattle.model.specs.declared.Operands.{Operands}
@@ -91,6 +95,14 @@ module _ (registers : List ℕ) where
       })
       else Solid (word registers PAT-COLOR-0)
 
+  -- W4: "a BLT's colour pattern, by RASTER_MODE or, in place of any pattern there, by channel 3's pattern mode", with the row and
+  -- column of the first pixel: the low bits of DST_OFFSET or of CH3_OFFSET
+  unfoldable pub colorPatternOf : ColorPattern
+  colorPatternOf =
+      if channel3Enable registers && channel3PatternMode registers then Tile (channel3Row registers) (channel3Column registers)
+      else if patternMode registers =? 0b10 then Tile (patternRow registers) (patternColumn registers)
+      else Absent
+
   unfoldable pub bltOf : Blt
   bltOf = record {
     destination = rectangleOf (destinationOffset registers) (destinationStride registers);
@@ -138,9 +150,27 @@ unfoldable pub drawAt : Blt → (i j : ℕ) → List ℕ → List ℕ
 drawAt b i j frame =
     drawOperands (b .destination .depth) (b .code) (pixelByte (b .destination) i j) (operandsAt b i j frame) frame
 
+-- a BLT with a solid pattern of this colour in place of its pattern
+abbrev pub withColor : Blt → ℕ → Blt
+withColor b color = record { destination = b .destination; source = b .source; pattern = Solid color; code = b .code }
+
+-- the colour of a tile at column i of row j: its row and column are found as those of the mono pattern are
+unfoldable pub colorAt : Rectangle → (row column : ℕ) → List ℕ → (i j : ℕ) → ℕ
+colorAt r row column table i j =
+    tileColor (r .depth) table (patternIndex (r .rows .negative) row j) (patternIndex (r .columns .negative) column i)
+
+-- the BLT as the pixel at column i of row j sees it: a colour pattern gives each pixel a colour of its own, as a solid pattern gives
+-- every pixel one, so "pattern transparency has no effect on it"
+unfoldable pub bltAt : ColorPattern → List ℕ → Blt → (i j : ℕ) → Blt
+bltAt Absent table b i j = b
+bltAt (Tile row column) table b i j = withColor b (colorAt (b .destination) row column table i j)
+
 -- pixel number k
 unfoldable pub drawBlt : Blt → ℕ → List ℕ → List ℕ
 drawBlt b k frame = drawAt b (columnOf (b .destination) k) (rowOf (b .destination) k) frame
+
+unfoldable pub drawTiled : ColorPattern → List ℕ → Blt → ℕ → List ℕ → List ℕ
+drawTiled p table b k frame = drawBlt (bltAt p table b (columnOf (b .destination) k) (rowOf (b .destination) k)) k frame
 
 -- ---- bounds
 

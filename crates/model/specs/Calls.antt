@@ -6,7 +6,7 @@ use mathlib.Core.List.{List, [], _∷_}
 use lib.ListN.{length, replicate}
 use Rattle.model.specs.Choice.{_<?_, _≤?_, _=?_, if_then_else_}
 use Rattle.model.specs.Refusals.{Rule, _when_, first, any}
-use Rattle.model.specs.Limits.{ringLeast, ringMost, frameMost, stopLeast, stopMost}
+use Rattle.model.specs.Limits.{ringLeast, ringMost, frameMost, stopLeast, stopMost, tableLength}
 use Rattle.model.specs.Registers.{registerCount}
 use Rattle.model.specs.Ring.{room, positionRules}
 use Rattle.model.specs.Judging.{judge}
@@ -116,7 +116,8 @@ refused s number = record { state = s; reply = Refused number }
 abbrev pub answered : List Rule → State → State → Answer
 answered rules kept moved = if first rules =? 0 then accepted moved else refused kept (first rules)
 
--- "After setup all registers, pointers and the completion number are zero", and nothing is in progress
+-- "After setup all registers, pointers and the completion number are zero", and nothing is in progress; W4: "the state record now
+-- holds the table, zero after setup"
 abbrev pub freshState : ℕ → ℕ → State
 freshState ringlength framelength = record {
   core = record {
@@ -128,6 +129,7 @@ freshState ringlength framelength = record {
     stop = 0;
     place = Idle;
   };
+  table = replicate tableLength 0;
   write = 0;
 }
 
@@ -137,7 +139,7 @@ setup ringlength framelength =
 
 -- an accepted publishing moves the write pointer alone
 abbrev pub withWrite : State → ℕ → State
-withWrite s p = record { core = s .core; write = p }
+withWrite s p = record { core = s .core; table = s .table; write = p }
 
 unfoldable pub publish : State → ℕ → Answer
 publish s p = answered (publishRules s p) s (withWrite s p)
@@ -154,6 +156,7 @@ restarted s = record {
     stop = 0;
     place = s .core .place;
   };
+  table = s .table;
   write = s .write;
 }
 
@@ -176,14 +179,14 @@ runRefusal ring s frame = first (runRules s (length ring) (length frame))
 
 -- the state without the write pointer, and frame memory
 abbrev pub machineOf : State → List ℕ → Machine
-machineOf s frame = record { core = s .core; frame = frame }
+machineOf s frame = record { core = s .core; table = s .table; frame = frame }
 
 -- the units of an accepted run, and the state after them
 unfoldable pub runUnits : List ℕ → State → List ℕ → ℕ → Done
 runUnits ring s frame budget = units ring (s .write) budget 0 (machineOf s frame)
 
 abbrev pub stateAfter : State → Done → State
-stateAfter s done = record { core = done .machine .core; write = s .write }
+stateAfter s done = record { core = done .machine .core; table = done .machine .table; write = s .write }
 
 unfoldable pub ranAnswer : List ℕ → State → Done → Answer
 ranAnswer ring s done = record {

@@ -4,27 +4,27 @@ use Prim.Native.Nat.{ℕ, zero, suc, _+_, _-_, _*_, _/_, _%_, _^_}
 use mathlib.Core.Path.{_≡_, refl}
 use mathlib.Core.Bool.{Bool, true, false}
 use mathlib.Core.List.{List, [], _∷_, _++_, map}
-use lib.ListN.{length, replicate, set, drop}
+use lib.ListN.{length, replicate, getD, set, drop}
 use Rattle.model.specs.Choice.{_≤?_}
 use Rattle.model.specs.Refusals.{first, any}
-use Rattle.model.specs.Limits.{ringLeast, ringMost, frameMost}
-use Rattle.model.specs.Registers.{registerCount, RASTER-MODE, DST-OFFSET, SRC-OFFSET, STRIDE, WID-HEIGHT, SRC-COLOR-FG, SRC-COLOR-BG, PAT-COLOR-0, PAT-COLOR-1, PAT-DATA-0, PAT-DATA-1, CH3-MODE-STR, CH3-WIDHI, BASE-OFFSET, BLT-MODE, VECTOR-MODE, VEC-ERR, VEC-LEN}
+use Rattle.model.specs.Registers.{registerCount, RASTER-MODE, DST-OFFSET, SRC-OFFSET, STRIDE, WID-HEIGHT, SRC-COLOR-FG, SRC-COLOR-BG, PAT-COLOR-0, PAT-COLOR-1, PAT-DATA-0, PAT-DATA-1, CH3-OFFSET, CH3-MODE-STR, CH3-WIDHI, BASE-OFFSET, BLT-MODE, VECTOR-MODE, LUT-INDEX, VEC-ERR, VEC-LEN}
 use Rattle.model.specs.Formats.{formatOf}
 use Rattle.model.specs.Bounds.{byteOutside, some, outside, least, greatest, extent}
 use Rattle.model.specs.Rectangle.{pixelByte, rectangleExtent}
 use Rattle.model.specs.Pixel.{readPixel, storePixel}
 use Rattle.model.specs.Ring.{distance, waiting, room, positionRules, wordAt}
+use Rattle.model.specs.Lookup.{badCount, nextIndex, indexAfter, dataStored, tileByte, tileValue, tileColor}
 use Rattle.model.specs.Raster.{raster, raster-source, raster-pattern, raster-destination, raster-pattern-xor, raster-source-xor}
 use Rattle.model.specs.Pattern.{patternByte, patternBit, patternIndex}
 use Rattle.model.specs.Expansion.{sourceBit, expand}
 use Rattle.model.specs.Operands.{drawOperands}
-use Rattle.model.specs.BltPixel.{rectangleOf, bytesOf, monoSourceOf, sourceOf, patternOf, bltOf, sourceValue, monoBit, withPattern, withSource, operandsAt, drawAt, drawBlt}
+use Rattle.model.specs.BltPixel.{rectangleOf, bytesOf, monoSourceOf, sourceOf, patternOf, colorPatternOf, bltOf, sourceValue, monoBit, withPattern, withSource, operandsAt, drawAt, colorAt, bltAt, drawBlt, drawTiled}
 use Rattle.model.specs.VectorPixel.{signed16, vectorOf, axialStep, diagonalStep, step, position, vectorExtent, vectorByte, drawVector}
-use Rattle.model.specs.Command.{returns, kindOf, badHeader, commandLength, drawnBy, badReturn, headerRules, wholeWords, readAfter, loadWords, loaded}
+use Rattle.model.specs.Command.{returns, kindOf, badHeader, commandLength, drawnBy, badReturn, headerRules, wholeWords, readAfter, loadWords, loaded, loadedTable}
 use Rattle.model.specs.Judging.{judge}
 use Rattle.model.specs.Completion.{retired}
-use Rattle.model.specs.Unit.{headerRefusal, commandRefusal, needed, ready, stopped, loadedCore, pixelCount, drawPixel, drawnCore, unitAt, unit, possible, units}
-use Rattle.model.specs.Calls.{numberOf, unfit, freshState, setup, publish, restart, askRoom, runWord, runRefusal, runUnits, ranAnswer, run, runFrame}
+use Rattle.model.specs.Unit.{headerRefusal, commandRefusal, needed, ready, stopped, loadedCore, tableAfter, pixelCount, drawPixel, drawnCore, unitAt, unit, possible, units}
+use Rattle.model.specs.Calls.{numberOf, unitsOf, unfit, freshState, setup, publish, restart, askRoom, runWord, runRefusal, runUnits, ranAnswer, run, runFrame}
 use Rattle.model.specs.declared.State.{State}
 use Rattle.model.specs.declared.Answer.{Answer}
 use Rattle.model.specs.declared.Extent.{Extent}
@@ -38,9 +38,10 @@ use Rattle.model.specs.declared.Reply.the-variants.{Refused, Accepted, R
 
 -- ---- how the cases are set up
 
--- the ring of the cases is the least; late positions are counted from its end: word 50 of 64 is size - 14
+-- the ring of the cases, the least that W4 leaves: "Number 1 now refuses rings below 1,024; the 64-word cases are restated at
+-- 1,024". Late positions are counted from its end: word 50 of 64 is now word 1010, size - 14
 abbrev pub size : ℕ
-size = ringLeast
+size = 1_024
 
 -- a list with another value in one place
 infixl 30 _but_is_
@@ -54,9 +55,13 @@ zeros = replicate registerCount 0
 abbrev pub ringOf : List ℕ → List ℕ
 ringOf words = words ++ replicate (size - length words) 0
 
--- an engine, and one that has neither retired a command nor stopped
-abbrev pub engineAt : List ℕ → (framelength read write completion stop : ℕ) → Place → State
-engineAt registers framelength read write completion stop place = record {
+-- a table that is all 0: W4's "512-word table"
+abbrev pub noTable : List ℕ
+noTable = replicate 512 0
+
+-- an engine with this table, one whose table is all 0, and one that has neither retired a command nor stopped
+abbrev pub engineWith : (table registers : List ℕ) → (framelength read write completion stop : ℕ) → Place → State
+engineWith table registers framelength read write completion stop place = record {
   core = record {
     registers = registers;
     read = read;
@@ -66,8 +71,12 @@ engineAt registers framelength read write completion stop place = record {
     stop = stop;
     place = place;
   };
+  table = table;
   write = write;
 }
+
+abbrev pub engineAt : List ℕ → (framelength read write completion stop : ℕ) → Place → State
+engineAt = engineWith noTable
 
 abbrev pub engine : List ℕ → (framelength read write : ℕ) → Place → State
 engine registers framelength read write place = engineAt registers framelength read write 0 0 place
@@ -79,16 +88,19 @@ answer s reply = record { state = s; reply = reply }
 abbrev pub ran : List ℕ → (read write : ℕ) → Answer
 ran ring read write = run ring (engine zeros 16 read write Idle) (replicate 16 0) 9
 
--- frame memory once a BLT with these registers is drawn, pixel by pixel
-abbrev pub drawn : List ℕ → List ℕ → List ℕ
-drawn registers frame = runFrame (ringOf []) (engine registers (length frame) 0 0 (Drawing Blt 0)) frame 99
+-- frame memory once a BLT with these registers is drawn, pixel by pixel, with this table or with one that is all 0
+abbrev pub drawnWith : (table registers frame : List ℕ) → List ℕ
+drawnWith table registers frame = runFrame (ringOf []) (engineWith table registers (length frame) 0 0 0 0 (Drawing Blt 0)) frame 99
+
+abbrev pub drawn : (registers frame : List ℕ) → List ℕ
+drawn = drawnWith noTable
 
 -- a command with this header is whole; the number that its header gets
 abbrev pub whole : (read write header : ℕ) → Bool
-whole read write header = wholeWords size read (commandLength (kindOf header)) (returns header) ≤? waiting size read write
+whole read write header = wholeWords size read (commandLength (kindOf header) 0) (returns header) ≤? waiting size read write
 
 abbrev pub headerNumber : (read header : ℕ) → ℕ
-headerNumber read header = first (headerRules size read header (commandLength (kindOf header)))
+headerNumber read header = first (headerRules size read header 0)
 
 -- one row of four pixels of one byte by code F0h, and a copy of one by CCh (BLT_MODE 1h, or 201h with X negative)
 abbrev pub row : List ℕ
@@ -128,16 +140,16 @@ pub record Cases : Type 0 where
   -- "Pattern row A5h: X low bits 0 sets columns 0 2 5 7; low bits 3 sets 2 4 5 7."
   pub row-A5-from-0 : rowA5 0 ≡ 1 ∷ 0 ∷ 1 ∷ 0 ∷ 0 ∷ 1 ∷ 0 ∷ 1 ∷ []
   pub row-A5-from-3 : rowA5 3 ≡ 0 ∷ 0 ∷ 1 ∷ 0 ∷ 1 ∷ 1 ∷ 0 ∷ 1 ∷ []
-  -- "Ring of 64. Empty: room 63. Read 0, write 63: room 0; publishing 0 is refused by 6."
+  -- "Ring of 64. Empty: room 63. Read 0, write 63: room 0; publishing 0 is refused by 6." At 1,024: room 1,023; write 1023
   pub ring-empty : room size 0 0 ≡ size - 1
   pub ring-full : room size 0 (size - 1) ≡ 0
   pub ring-full-publish : first (positionRules size 0 (size - 1) 0) ≡ 6
-  -- "Read 50, BLT, write 3: 17 waiting, whole. Same with W: 22."
+  -- "Read 50, BLT, write 3: 17 waiting, whole. Same with W: 22." At 1,024: read 1010
   pub across-waiting : waiting size (size - 14) 3 ≡ 17
   pub across-whole : whole (size - 14) 3 0x00000000 ≡ true
   pub across-return : headerNumber (size - 14) 0x80000000 ≡ 22
   pub across-return-run : ran (ringOf [] but size - 14 is 0x80000000) (size - 14) 3 .reply ≡ Ran Stopped 1 (size - 18)
-  -- "Read 40, BLT with W, write 57: waiting; write 0: done, read 0."
+  -- "Read 40, BLT with W, write 57: waiting; write 0: done, read 0." At 1,024: read 1000, write 1017
   pub return-waits : ran (ringOf [] but size - 24 is 0x80000000) (size - 24) (size - 7) .reply ≡ Ran Waiting 0 (size - 18)
   pub return-done : ran (ringOf [] but size - 24 is 0x80000000) (size - 24) 0 .reply ≡ Ran Waiting 1 (size - 1)
   pub return-read : ran (ringOf [] but size - 24 is 0x80000000) (size - 24) 0 .state .core .read ≡ 0
@@ -193,9 +205,9 @@ pub record Extremes : Type 0 where
 pub record Judged : Type 0 where
   -- 23: codes 0001 and 0111, alpha
   pub formats-refused : rowWith RASTER-MODE (0x100000F0 ∷ 0x700000F0 ∷ 0x004000F0 ∷ 0x008000F0 ∷ []) ≡ replicate 4 23
-  -- 24: each bit and mode of RASTER_MODE, SM 11 and each select of BLT_MODE, channel 3, BASE_OFFSET; 25; and bits that refuse
-  -- nothing
-  pub modes-refused : rowWith RASTER-MODE (0x20F0 ∷ 0x10F0 ∷ 0x08F0 ∷ 0x02F0 ∷ 0x03F0 ∷ []) ≡ replicate 5 24
+  -- 24: each bit and mode of RASTER_MODE but the colour pattern, SM 11 and each select of BLT_MODE, channel 3, BASE_OFFSET; 25; and
+  -- bits that refuse nothing
+  pub modes-refused : rowWith RASTER-MODE (0x20F0 ∷ 0x10F0 ∷ 0x08F0 ∷ 0x03F0 ∷ 0x02F0 ∷ []) ≡ replicate 4 24 ++ (0 ∷ [])
   pub sources-refused : rowWith BLT-MODE (0x40 ∷ 0x80 ∷ 0xC0 ∷ 0x02 ∷ 0x03 ∷ []) ≡ 0 ∷ 0 ∷ 24 ∷ 24 ∷ 24 ∷ []
   pub channel-3-refused : rowWith CH3-MODE-STR (0x80000000 ∷ 0x7FFFFFFF ∷ []) ≡ 24 ∷ 0 ∷ []
   pub base-refused : rowWith BASE-OFFSET (0x00000001 ∷ 0x80000000 ∷ []) ≡ 24 ∷ 24 ∷ []
@@ -214,9 +226,10 @@ numbers = 1 ∷ 2 ∷ 3 ∷ 4 ∷ 5 ∷ 6 ∷ 7 ∷ 8 ∷ 9 ∷ 10 ∷ 11 ∷ 12
 
 -- headers and words
 pub record Commands : Type 0 where
-  -- kinds 10 and 11, reserved bits of both kinds; S has no effect; W that ends exactly at the ring's end, and at word 0
+  -- kind 11, reserved bits of each kind; S has no effect; W that ends exactly at the ring's end, and at word 0
   pub headers-refused :
-      map (headerNumber 10) (0x40000000 ∷ 0x60000000 ∷ 0x00010000 ∷ 0x08000000 ∷ 0x20002000 ∷ 0x28000000 ∷ []) ≡ replicate 6 21
+      map (headerNumber 10) (0x60000000 ∷ 0x00010000 ∷ 0x08000000 ∷ 0x20002000 ∷ 0x28000000 ∷ 0x40000004 ∷ 0x48000000 ∷ [])
+      ≡ replicate 7 21
   pub headers-taken : map (headerNumber 10) (0x1000FFFF ∷ 0x30001FFF ∷ 0x80000000 ∷ 0xA0000000 ∷ []) ≡ replicate 4 0
   pub returns-at-end : map (λ read. headerNumber read 0x80000000) ((size - 17) ∷ (size - 16) ∷ 0 ∷ []) ≡ 0 ∷ 22 ∷ 22 ∷ []
   -- a bad header stops as soon as it waits, a good one waits for its words
@@ -227,10 +240,10 @@ pub record Commands : Type 0 where
       ran (ringOf (0x20000001 ∷ 0xAB ∷ [])) 0 14
       ≡ answer (engineAt (zeros but RASTER-MODE is 0xAB) 16 14 14 1 0 Idle) (Ran Waiting 1 (size - 1))
   -- a BLT's words in order, all but the last enabled; every other one enabled; across the ring's end, and read after it
-  pub blt-words : ran (ringOf (0x7FFF ∷ numbers)) 0 17 .state .core .registers ≡ numbers ++ (0 ∷ []) but BLT-MODE is 0
+  pub blt-words : ran (ringOf (0x7FFF ∷ numbers)) 0 17 .state .core .registers ≡ numbers ++ (0 ∷ 0 ∷ []) but BLT-MODE is 0
   pub skipped-words :
       ran (ringOf (0x2AAA ∷ numbers)) 0 17 .state .core .registers
-      ≡ 0 ∷ 2 ∷ 0 ∷ 4 ∷ 0 ∷ 6 ∷ 0 ∷ 8 ∷ 0 ∷ 10 ∷ 0 ∷ 12 ∷ 0 ∷ 14 ∷ 0 ∷ 0 ∷ 0 ∷ []
+      ≡ 0 ∷ 2 ∷ 0 ∷ 4 ∷ 0 ∷ 6 ∷ 0 ∷ 8 ∷ 0 ∷ 10 ∷ 0 ∷ 12 ∷ 0 ∷ 14 ∷ 0 ∷ 0 ∷ 0 ∷ 0 ∷ []
   pub across-loads :
       ran (ringOf (0x12 ∷ 0x34 ∷ []) but size - 14 is 0x6000) (size - 14) 3 .state
       ≡ engineAt (zeros but CH3-WIDHI is 0x12 but BASE-OFFSET is 0x34) 16 3 3 1 0 Idle
@@ -246,8 +259,8 @@ pub record Calls : Type 0 where
   -- "After setup all registers, pointers and the completion number are zero"; refused by 1 or 2, "a state of all zeros"
   pub setup-fresh : setup size 16 ≡ answer (engine zeros 16 0 0 Idle) (Accepted (size - 1))
   pub setup-refused : setup (size - 1) 16 ≡ answer (freshState 0 0) (Refused 1)
-  pub setup-rings : map (λ n. numberOf (setup n 16 .reply)) ((size - 1) ∷ size ∷ ringMost ∷ (ringMost + 1) ∷ []) ≡ 1 ∷ 0 ∷ 0 ∷ 1 ∷ []
-  pub setup-frames : map (λ n. numberOf (setup size n .reply)) (0 ∷ 1 ∷ frameMost ∷ (frameMost + 1) ∷ []) ≡ 2 ∷ 0 ∷ 0 ∷ 2 ∷ []
+  pub setup-rings : map (λ n. numberOf (setup n 16 .reply)) (1_023 ∷ 1_024 ∷ 16_384 ∷ 16_385 ∷ []) ≡ 1 ∷ 0 ∷ 0 ∷ 1 ∷ []
+  pub setup-frames : map (λ n. numberOf (setup size n .reply)) (0 ∷ 1 ∷ 16_777_216 ∷ 16_777_217 ∷ []) ≡ 2 ∷ 0 ∷ 0 ∷ 2 ∷ []
   -- "The same position again does nothing."; one between the pointers is 6; asking for room
   pub publish-again : publish (engine zeros 16 3 9 Idle) 9 ≡ answer (engine zeros 16 3 9 Idle) (Accepted (size - 7))
   pub publish-refused : publish (engine zeros 16 3 9 Idle) 8 ≡ answer (engine zeros 16 3 9 Idle) (Refused 6)
@@ -263,7 +276,7 @@ pub record Calls : Type 0 where
       publish unfitState 0 ∷ run (ringOf []) unfitState (replicate 16 0) 9 ∷ restart unfitState ∷ askRoom unfitState ∷ []
       ≡ replicate 4 (answer unfitState (Refused 3))
   pub pointers : map unfit (engine zeros 16 (size - 1) (size - 1) Idle ∷ engine zeros 16 0 size Idle ∷ []) ≡ false ∷ true ∷ []
-  pub stops : map (λ n. unfit (engineAt zeros 16 0 0 0 n Idle)) (0 ∷ 20 ∷ 21 ∷ 28 ∷ 29 ∷ []) ≡ false ∷ true ∷ false ∷ false ∷ true ∷ []
+  pub stops : map (λ n. unfit (engineAt zeros 16 0 0 0 n Idle)) (0 ∷ 20 ∷ 21 ∷ 29 ∷ 30 ∷ []) ≡ false ∷ true ∷ false ∷ false ∷ true ∷ []
   pub stop-drawing : unfit (engineAt row 16 0 0 0 27 (Drawing Blt 0)) ≡ true
   pub places : map (λ k. unfit (engine row 16 0 0 (Drawing Blt k))) (0 ∷ 3 ∷ 4 ∷ []) ≡ false ∷ false ∷ true ∷ []
   pub judged-place : unfit (engine zeros 16 0 0 (Drawing Vector 0)) ≡ true
@@ -463,6 +476,252 @@ pub record MonoSources : Type 0 where
   -- and so row 3 refuses such a BLT in progress
   pub bits-in-progress : map (λ offset. unfit (engine (bitsRow offset 0x41) 32 0 0 (Drawing Blt 17))) (26 ∷ 27 ∷ []) ≡ false ∷ true ∷ []
 
+-- n numbers from `first` on, `step` apart
+abbrev pub series : (first step n : ℕ) → List ℕ
+series first step zero = []
+series first step (suc n) = first ∷ series (first + step) step n
+
+-- a run of a ring that has these words from word `read` on, past its end from word 0, with n words waiting
+abbrev pub placed : (at : ℕ) → List ℕ → List ℕ → List ℕ
+placed at [] ring = ring
+placed at (w ∷ words) ring = placed (at + 1) words (ring but at % size is w)
+
+abbrev pub given : (read n : ℕ) → List ℕ → Answer
+given read n words = ran (placed read words (ringOf [])) read ((read + n) % size)
+
+-- its units, completion number and stop number: the command waits, is loaded and retired, or is refused
+abbrev pub outcome : Answer → ℕ × ℕ × ℕ
+outcome a = (unitsOf (a .reply), a .state .core .completion, a .state .core .stop)
+
+abbrev pub waits : ℕ × ℕ × ℕ
+waits = (0, 0, 0)
+
+abbrev pub loads : ℕ × ℕ × ℕ
+loads = (1, 1, 0)
+
+abbrev pub refusedBy : ℕ → ℕ × ℕ × ℕ
+refusedBy number = (1, 0, number)
+
+-- three words of a table load, at index 100h unless its header skips that word, and what they leave from this index on
+abbrev pub threeWords : ℕ → Answer
+threeWords header = given 0 6 (header ∷ 0x100 ∷ 0x60000003 ∷ 11 ∷ 12 ∷ 13 ∷ [])
+
+abbrev pub threeLeft : ℕ → Answer
+threeLeft index =
+    answer
+    (engineWith (noTable but index is 11 but index + 1 is 12 but index + 2 is 13) (zeros but LUT-INDEX is index + 3) 16 6 6 1 0 Idle)
+    (Ran Waiting 1 (size - 1))
+
+-- two words at index 511: they go to 511 and to 0
+abbrev pub lastAndFirst : (header index : ℕ) → List ℕ
+lastAndFirst header index = header ∷ index ∷ 0x60000002 ∷ 11 ∷ 12 ∷ []
+
+abbrev pub lastAndFirstLeft : (index read : ℕ) → State
+lastAndFirstLeft index read = engineWith (noTable but 511 is 11 but 0 is 12) (zeros but LUT-INDEX is index) 16 read read 1 0 Idle
+
+-- the count words that 29 is for: counts 0, 513 and 65,535, each DTYPE but 011, the lowest and the highest reserved bit
+abbrev pub badCounts : List ℕ
+badCounts =
+    0x60000000 ∷ 0x60000201 ∷ 0x6000FFFF
+    ∷ 0x00000001 ∷ 0x20000001 ∷ 0x40000001 ∷ 0x80000001 ∷ 0xA0000001 ∷ 0xC0000001 ∷ 0xE0000001
+    ∷ 0x60010001 ∷ 0x70000001 ∷ []
+
+-- what comes of loads with these count words at ring word 0, with n words waiting
+abbrev pub counted : (header n : ℕ) → List ℕ → List (ℕ × ℕ × ℕ)
+counted header n counts = map (λ c. outcome (given 0 n (header ∷ 0 ∷ c ∷ []))) counts
+
+-- of a load of one word with W at ring word `read`
+abbrev pub returning : (read n : ℕ) → ℕ × ℕ × ℕ
+returning read n = outcome (given read n (0xC0000003 ∷ 0 ∷ 0x60000001 ∷ []))
+
+-- a table with a tile in which byte number n is n: word 100h is 03020100h, word 13Fh is FFFEFDFCh
+abbrev pub tileTable : List ℕ
+tileTable = replicate 256 0 ++ series 0x03020100 0x04040404 64 ++ replicate 192 0
+
+-- table loads (W4)
+pub record TableLoads : Type 0 where
+  -- index, count word, data: one unit, which retires the load. Neither header bit 1 nor S has an effect
+  pub three-words : map threeWords (0x40000003 ∷ 0x40000001 ∷ 0x50000003 ∷ []) ≡ replicate 3 (threeLeft 0x100)
+  -- "Header bit 0 enables the index": the word is present and skipped
+  pub index-skipped : map threeWords (0x40000002 ∷ 0x40000000 ∷ []) ≡ replicate 2 (threeLeft 0)
+  -- "the index's bits 8:0 rising after each word and returning from 511 to 0"; bits 31:9 as they were
+  pub index-returns :
+      map (λ index. given 0 5 (lastAndFirst 0x40000003 index) .state) (0xABCDE1FF ∷ 0xFFFFFFFF ∷ [])
+      ≡ lastAndFirstLeft 0xABCDE001 5 ∷ lastAndFirstLeft 0xFFFFFE01 5 ∷ []
+  -- a later load with bit 0 clear goes on there
+  pub goes-on :
+      given 0 9 (lastAndFirst 0x40000003 0xABCDE1FF ++ (0x40000002 ∷ 0x55 ∷ 0x60000001 ∷ 13 ∷ [])) .state
+      ≡ engineWith (noTable but 511 is 11 but 0 is 12 but 1 is 13) (zeros but LUT-INDEX is 0xABCDE002) 16 9 9 2 0 Idle
+  -- after 512 words, the second of which went to 0, the index is back
+  pub index-back :
+      let s = given 0 515 (0x40000003 ∷ 0xABCDE1FF ∷ 0x60000200 ∷ 11 ∷ 12 ∷ []) .state in
+      getD (s .table) 0 0 ∷ getD (s .core .registers) LUT-INDEX 0 ∷ [] ≡ 12 ∷ 0xABCDE1FF ∷ []
+  -- it waits for the last of its words, and is one unit, whatever the count
+  pub all-words :
+      map (λ n. map (λ w. outcome (given 0 w (0x40000003 ∷ 0 ∷ (0x60000000 + n) ∷ []))) ((n + 2) ∷ (n + 3) ∷ [])) (1 ∷ 2 ∷ 512 ∷ [])
+      ≡ replicate 3 (waits ∷ loads ∷ [])
+  -- 29: "a DTYPE other than 011, a reserved bit set in the count word, or a count of 0 or above 512, judged as soon as three words
+  -- wait and before 22": with two words and with three, without W and with it at ring word 0
+  pub counts-wait : map (λ header. counted header 2 badCounts) (0x40000003 ∷ 0xC0000003 ∷ []) ≡ replicate 2 (replicate 12 waits)
+  pub counts-refused :
+      map (λ header. counted header 3 badCounts) (0x40000003 ∷ 0xC0000003 ∷ []) ≡ replicate 2 (replicate 12 (refusedBy 29))
+  pub counts-taken : counted 0x40000003 3 (0x60000001 ∷ 0x60000200 ∷ []) ≡ replicate 2 waits
+  -- 21 comes first, with one word and with three: header bits 2 and 27, a bad count, and W at ring word 0
+  pub header-first :
+      map (λ header. counted header 1 (0 ∷ []) ++ counted header 3 (0 ∷ [])) (0x40000004 ∷ 0x48000000 ∷ 0xC0000004 ∷ [])
+      ≡ replicate 3 (replicate 2 (refusedBy 21))
+  -- "22, which for this kind waits for them too": W at ring word 0 and across the ring's end, with two words and with three; a load
+  -- of four words that ends at the ring's end is taken. Of the other kinds 22 is judged with the header
+  pub returns-wait : map (λ read. returning read 2) (0 ∷ (size - 1) ∷ (size - 3) ∷ []) ≡ replicate 3 waits
+  pub returns-refused :
+      map (λ read. returning read 3) (0 ∷ (size - 1) ∷ (size - 3) ∷ (size - 4) ∷ []) ≡ replicate 3 (refusedBy 22) ++ (waits ∷ [])
+  pub other-kinds : map (λ header. outcome (given 0 1 (header ∷ []))) (0x80000000 ∷ 0xA0000000 ∷ []) ≡ replicate 2 (refusedBy 22)
+  -- with W it waits until the words waiting reach the ring's end, and read is 0 after it
+  pub load-returns :
+      map (λ n. given (size - 10) n (lastAndFirst 0xC0000003 511) .state) (5 ∷ 9 ∷ 10 ∷ [])
+      ≡ engine zeros 16 (size - 10) (size - 5) Idle ∷ engine zeros 16 (size - 10) (size - 1) Idle ∷ lastAndFirstLeft 1 0 ∷ []
+  -- without W its words may run across the end: after its first, its second or its fourth word
+  pub across-end :
+      map (λ read. given read 5 (lastAndFirst 0x40000003 511) .state) ((size - 1) ∷ (size - 2) ∷ (size - 4) ∷ [])
+      ≡ map (lastAndFirstLeft 1) (4 ∷ 3 ∷ 1 ∷ [])
+  -- a refused load, by 29 or by 22, leaves table and index register
+  pub refused-load :
+      map (λ words. given 0 5 words .state)
+      ((0x40000003 ∷ 511 ∷ 0x40000002 ∷ 11 ∷ 12 ∷ []) ∷ lastAndFirst 0xC0000003 511 ∷ [])
+      ≡ engineAt zeros 16 0 5 0 29 Idle ∷ engineAt zeros 16 0 5 0 22 Idle ∷ []
+  -- and publishing, a refused BLT and a restart leave the table
+  pub table-kept :
+      let s = publish (engineWith tileTable zeros 16 0 0 0 0 Idle) 17 .state in
+      let t = run (ringOf (0x8001 ∷ 0x100000AB ∷ [])) s (replicate 16 0) 9 .state in
+      s ∷ t ∷ restart t .state ∷ []
+      ≡ engineWith tileTable zeros 16 0 17 0 0 Idle
+      ∷ engineWith tileTable zeros 16 0 17 0 23 Idle
+      ∷ engineWith tileTable zeros 16 17 17 0 0 Idle
+      ∷ []
+
+-- a BLT with these registers drawn with that tile
+abbrev pub drawnTile : (registers frame : List ℕ) → List ℕ
+drawnTile = drawnWith tileTable
+
+-- one pixel at each corner of the tile: upper left, upper right, lower left, lower right. RASTER_MODE 2F0h has one byte a pixel,
+-- 600002F0h two, 800002F0h four; 6F0h has pattern transparency
+abbrev pub corners : ℕ → List (List ℕ)
+corners raster =
+    map
+    (λ offset. drawnTile (row but RASTER-MODE is raster but DST-OFFSET is offset but WID-HEIGHT is 0x00010001) (replicate 4 9))
+    (0x00000000 ∷ 0x1C000000 ∷ 0xE0000000 ∷ 0xFC000000 ∷ [])
+
+-- 3 by 2 pixels with this RASTER_MODE, DST_OFFSET and BLT_MODE; and with this CH3_MODE_STR, Y low bits 7 and X low bits 0 of
+-- CH3_OFFSET, but 2 and 3 of DST_OFFSET. 80200000h is a pattern of one byte a pixel
+abbrev pub tileBlt : (raster offset mode : ℕ) → List ℕ
+tileBlt raster offset mode =
+    zeros but RASTER-MODE is raster but DST-OFFSET is offset but STRIDE is 3 but WID-HEIGHT is 0x00030002 but BLT-MODE is mode
+
+abbrev pub channel3Blt : (raster mode3 : ℕ) → List ℕ
+channel3Blt raster mode3 = tileBlt raster 0x4C000000 0 but CH3-OFFSET is 0xE3ABCDEF but CH3-MODE-STR is mode3
+
+abbrev pub tiled : (raster offset mode : ℕ) → List ℕ
+tiled raster offset mode = drawnTile (tileBlt raster offset mode) (replicate 6 9)
+
+abbrev pub channel3Tiled : (raster mode3 : ℕ) → List ℕ
+channel3Tiled raster mode3 = drawnTile (channel3Blt raster mode3) (replicate 6 9)
+
+-- four pixels of row 0 of the tile, from the bits of A0h
+abbrev pub tileText : (raster mode3 : ℕ) → List ℕ
+tileText raster mode3 = text raster 0x41 0 0x00040001 but CH3-MODE-STR is mode3
+
+-- a load of that row, and a BLT of its columns 2 to 5 by channel 3
+abbrev pub tileRing : List ℕ
+tileRing =
+    ringOf
+    ((0x40000003 ∷ 0x100 ∷ 0x60000002 ∷ 0x03020100 ∷ 0x07060504 ∷ [])
+    ++ (0x9813 ∷ 0xF0 ∷ 0 ∷ 0 ∷ 0 ∷ 0x00040001 ∷ replicate 6 0)
+    ++ (0x08000000 ∷ 0x80200000 ∷ []))
+
+-- the numbers that judge the row with each of these in CH3_MODE_STR, for each of these in RASTER_MODE
+abbrev pub channel3With : (rasters modes : List ℕ) → List (List ℕ)
+channel3With rasters modes =
+    map (λ raster. map (λ mode3. judge Blt (row but RASTER-MODE is raster but CH3-MODE-STR is mode3) 16) modes) rasters
+
+-- colour patterns (W4)
+pub record ColorPatterns : Type 0 where
+  -- 000, 6.3.7: "the top left pixel is in the least significant byte of the DWORD at address 100h .., the top right pixel is in the
+  -- most significant byte of the DWORD at address 101. The bottom left pixel is in the least significant byte of the DWORD at
+  -- address 10Eh and the bottom right pixel is in the most significant byte of the DWORD at address 10Fh."
+  pub corners-8 : corners 0x2F0 ≡ (0 ∷ 9 ∷ 9 ∷ 9 ∷ []) ∷ (7 ∷ 9 ∷ 9 ∷ 9 ∷ []) ∷ (56 ∷ 9 ∷ 9 ∷ 9 ∷ []) ∷ (63 ∷ 9 ∷ 9 ∷ 9 ∷ []) ∷ []
+  -- "In 16-bpp mode, the upper right most pixel is contained in the most significant bytes of the fourth DWORD, and for 32-bpp
+  -- mode, the eighth DWORD contains the upper right most pixel."; the last pixel ends word 11Fh and is word 13Fh
+  pub corners-16 :
+      corners 0x600002F0 ≡ (0 ∷ 1 ∷ 9 ∷ 9 ∷ []) ∷ (14 ∷ 15 ∷ 9 ∷ 9 ∷ []) ∷ (112 ∷ 113 ∷ 9 ∷ 9 ∷ []) ∷ (126 ∷ 127 ∷ 9 ∷ 9 ∷ []) ∷ []
+  pub corners-32 :
+      corners 0x800002F0
+      ≡ (0 ∷ 1 ∷ 2 ∷ 3 ∷ []) ∷ (28 ∷ 29 ∷ 30 ∷ 31 ∷ []) ∷ (224 ∷ 225 ∷ 226 ∷ 227 ∷ []) ∷ (252 ∷ 253 ∷ 254 ∷ 255 ∷ []) ∷ []
+  -- row and column are DST_OFFSET's low bits plus the signed steps, modulo 8: right and down from row 7, column 6, left and down
+  -- from 7, 1, right and up from 0, 6, left and up from 0, 1. "pattern transparency has no effect on it"
+  pub tile-right-down : map (λ raster. tiled raster 0xFB000000 0x000) (0x2F0 ∷ 0x6F0 ∷ []) ≡ replicate 2 (62 ∷ 63 ∷ 56 ∷ 6 ∷ 7 ∷ 0 ∷ [])
+  pub tile-left-down : tiled 0x2F0 0xE7000002 0x200 ≡ 63 ∷ 56 ∷ 57 ∷ 7 ∷ 0 ∷ 1 ∷ []
+  pub tile-right-up : tiled 0x2F0 0x1B000003 0x100 ≡ 62 ∷ 63 ∷ 56 ∷ 6 ∷ 7 ∷ 0 ∷ []
+  pub tile-left-up : tiled 0x2F0 0x07000005 0x300 ≡ 63 ∷ 56 ∷ 57 ∷ 7 ∷ 0 ∷ 1 ∷ []
+  -- 2 by 2 of two bytes, left and up from row 0, column 0, whose last byte is byte 7
+  pub tile-16 :
+      drawnTile (tileBlt 0x600002F0 0x00000007 0x300 but STRIDE is 4 but WID-HEIGHT is 0x00020002) (replicate 8 9)
+      ≡ 126 ∷ 127 ∷ 112 ∷ 113 ∷ 14 ∷ 15 ∷ 0 ∷ 1 ∷ []
+  -- "in place of any pattern there, by channel 3's pattern mode": solid, mono and colour, without and with transparency, from
+  -- CH3_OFFSET's low bits. Its own X and Y, reserved bits and stride have no effect; BLT_MODE's X and Y have theirs
+  pub channel-3-tile :
+      map (λ raster. channel3Tiled raster 0x80200000) (0x0F0 ∷ 0x1F0 ∷ 0x2F0 ∷ 0x4F0 ∷ 0x5F0 ∷ 0x6F0 ∷ [])
+      ≡ replicate 6 (56 ∷ 57 ∷ 58 ∷ 0 ∷ 1 ∷ 2 ∷ [])
+  pub channel-3-bits : channel3Tiled 0x0F0 0xB023FFFF ≡ 56 ∷ 57 ∷ 58 ∷ 0 ∷ 1 ∷ 2 ∷ []
+  pub channel-3-left-up :
+      drawnTile (channel3Blt 0x0F0 0x80200000 but DST-OFFSET is 0x4C000005 but BLT-MODE is 0x300) (replicate 6 9)
+      ≡ 54 ∷ 55 ∷ 48 ∷ 62 ∷ 63 ∷ 56 ∷ []
+  -- not enabled it has none: the pattern is RASTER_MODE's, from DST_OFFSET's low bits
+  pub channel-3-off : channel3Tiled 0x2F0 0x7FFFFFFF ≡ 19 ∷ 20 ∷ 21 ∷ 27 ∷ 28 ∷ 29 ∷ []
+  -- code B8h, P where S is 0 and D where it is 1: pattern 3Eh, 3Fh and 38h, source F0h, 0Fh and 0 from byte 3 on, destination 55h
+  pub with-source :
+      drawnTile
+      (tileBlt 0x2B8 0xF8000000 1 but SRC-OFFSET is 3 but WID-HEIGHT is 0x00030001)
+      (0x55 ∷ 0x55 ∷ 0x55 ∷ 0xF0 ∷ 0x0F ∷ 0 ∷ [])
+      ≡ 0x5E ∷ 0x35 ∷ 0x38 ∷ 0xF0 ∷ 0x0F ∷ 0 ∷ []
+  -- a pixel that is transparent by its mono source writes nothing; each costs its unit, and the table stays
+  pub by-source :
+      map (λ registers. drop 8 (drawnTile registers (0xA0 ∷ replicate 11 9))) (tileText 0xAF0 0 ∷ tileText 0x8F0 0x80200000 ∷ [])
+      ≡ replicate 2 (0 ∷ 9 ∷ 2 ∷ 9 ∷ [])
+  pub tile-units :
+      let s = engineWith tileTable (tileText 0xAF0 0) 12 0 0 0 0 (Drawing Blt 0) in
+      run (ringOf []) s (replicate 12 0) 99
+      ≡ answer (engineWith tileTable (s .core .registers) 12 0 0 1 0 Idle) (Ran Waiting 4 (size - 1))
+  -- loaded and drawn from one ring
+  pub load-and-draw : runFrame tileRing (engine zeros 6 0 22 Idle) (replicate 6 9) 9 ≡ 2 ∷ 3 ∷ 4 ∷ 5 ∷ 9 ∷ 9 ∷ []
+  -- 24 "keeps channel 3 enabled without that mode, steered to the source, in another format than RASTER_MODE's, or with further
+  -- mode bits but X and Y set": rotation, BGR, PL, PE and HS. X, Y, each reserved bit and the stride refuse nothing
+  pub channel-3-taken : rowWith CH3-MODE-STR (0x80200000 ∷ 0xA0200000 ∷ 0x90200000 ∷ 0x80220000 ∷ 0x80210000 ∷ 0x8020FFFF ∷ []) ≡ replicate 6 0
+  pub channel-3-modes :
+      rowWith CH3-MODE-STR (0x80000000 ∷ 0xC0200000 ∷ 0x81200000 ∷ 0x80A00000 ∷ 0x80600000 ∷ 0x80300000 ∷ 0x80280000 ∷ 0x80240000 ∷ [])
+      ≡ replicate 8 24
+  -- each of the five formats, with each of them in channel 3: the codes must be the same, not only the bytes a pixel
+  pub channel-3-formats :
+      channel3With
+      (0x000000F0 ∷ 0x400000F0 ∷ 0x500000F0 ∷ 0x600000F0 ∷ 0x800000F0 ∷ [])
+      (0x80200000 ∷ 0x84200000 ∷ 0x85200000 ∷ 0x86200000 ∷ 0x88200000 ∷ [])
+      ≡ (0 ∷ 24 ∷ 24 ∷ 24 ∷ 24 ∷ [])
+      ∷ (24 ∷ 0 ∷ 24 ∷ 24 ∷ 24 ∷ [])
+      ∷ (24 ∷ 24 ∷ 0 ∷ 24 ∷ 24 ∷ [])
+      ∷ (24 ∷ 24 ∷ 24 ∷ 0 ∷ 24 ∷ [])
+      ∷ (24 ∷ 24 ∷ 24 ∷ 24 ∷ 0 ∷ [])
+      ∷ []
+  -- each pattern mode without channel 3, with its pattern, and with it enabled in no such mode: mode 11 is always refused
+  pub pattern-modes :
+      channel3With (0x0F0 ∷ 0x1F0 ∷ 0x2F0 ∷ 0x3F0 ∷ []) (0 ∷ 0x80200000 ∷ 0x80000000 ∷ [])
+      ≡ replicate 3 (0 ∷ 0 ∷ 24 ∷ []) ++ (replicate 3 24 ∷ [])
+  -- vectors keep 24 for channel 3 enabled, in whatever mode
+  pub channel-3-vectors : lineWith CH3-MODE-STR (0x80000000 ∷ 0x80200000 ∷ 0x7FFFFFFF ∷ []) ≡ 24 ∷ 24 ∷ 0 ∷ []
+  -- and so row 3 accepts a colour pattern's BLT in progress, and refuses one whose channel 3 is refused
+  pub tile-in-progress :
+      map (λ registers. unfit (engineWith tileTable registers 6 0 0 0 0 (Drawing Blt 5)))
+      (tileBlt 0x2F0 0xFB000000 0 ∷ channel3Blt 0x0F0 0x80200000 ∷ channel3Blt 0x0F0 0xC0200000 ∷ channel3Blt 0x0F0 0x86200000 ∷ [])
+      ≡ false ∷ false ∷ true ∷ true ∷ []
+
 -- a vector by code 3Ch (P xor S), its thirteen words in order: the marked case's terms, length 5, X negative
 abbrev pub vectorRing : List ℕ
 vectorRing = ringOf (0x20001FFF ∷ 0x3C ∷ 5 ∷ 0x0004FFFA ∷ 6 ∷ 0x0005FFFF ∷ 9 ∷ 10 ∷ 11 ∷ 12 ∷ 13 ∷ 14 ∷ 0 ∷ 4 ∷ [])
@@ -480,7 +739,7 @@ pub record Vectors : Type 0 where
   pub vector-words :
       run vectorRing vectorStart (replicate 14 0) 99
       ≡ answer
-      (engineAt (0x3C ∷ 5 ∷ 0x0004FFFA ∷ 6 ∷ 0x0005FFFF ∷ 9 ∷ 7 ∷ 10 ∷ 11 ∷ 12 ∷ 13 ∷ 7 ∷ 14 ∷ 7 ∷ 0 ∷ 7 ∷ 4 ∷ []) 14 14 14 9 0 Idle)
+      (engineAt (0x3C ∷ 5 ∷ 0x0004FFFA ∷ 6 ∷ 0x0005FFFF ∷ 9 ∷ 7 ∷ 10 ∷ 11 ∷ 12 ∷ 13 ∷ 7 ∷ 14 ∷ 7 ∷ 0 ∷ 7 ∷ 4 ∷ 7 ∷ []) 14 14 14 9 0 Idle)
       (Ran Waiting 6 (size - 1))
   pub vector-frame :
       runFrame vectorRing vectorStart (replicate 14 0) 99
@@ -494,6 +753,8 @@ pub record Further : Type 0 where
   pub pixels : Pixels
   pub negative-x : NegativeX
   pub mono-sources : MonoSources
+  pub table-loads : TableLoads
+  pub color-patterns : ColorPatterns
   pub vectors : Vectors
 
 -- ---- a recording
@@ -531,7 +792,7 @@ pub record Recorded : Type 0 where
 -- ---- all of it
 
 pub cases : Cases × Further × Recorded
-unfolding first any patternBit patternByte patternIndex distance waiting room wordAt readPixel storePixel raster formatOf byteOutside some outside least greatest extent pixelByte rectangleOf bytesOf monoSourceOf sourceOf patternOf bltOf sourceBit expand sourceValue monoBit withPattern withSource operandsAt drawOperands drawAt drawBlt signed16 vectorOf axialStep diagonalStep step position vectorByte drawVector kindOf badHeader drawnBy badReturn wholeWords readAfter loadWords loaded judge retired headerRefusal commandRefusal needed ready stopped loadedCore pixelCount drawPixel drawnCore unitAt unit possible units unfit setup publish restart askRoom runWord runRefusal runUnits ranAnswer run runFrame
+unfolding first any patternBit patternByte patternIndex distance waiting room wordAt badCount nextIndex indexAfter dataStored tileByte tileValue tileColor readPixel storePixel raster formatOf byteOutside some outside least greatest extent pixelByte rectangleOf bytesOf monoSourceOf sourceOf patternOf colorPatternOf bltOf sourceBit expand sourceValue monoBit withPattern withSource operandsAt drawOperands drawAt colorAt bltAt drawBlt drawTiled signed16 vectorOf axialStep diagonalStep step position vectorByte drawVector kindOf badHeader drawnBy badReturn wholeWords readAfter loadWords loaded loadedTable judge retired headerRefusal commandRefusal needed ready stopped loadedCore tableAfter pixelCount drawPixel drawnCore unitAt unit possible units unfit setup publish restart askRoom runWord runRefusal runUnits ranAnswer run runFrame
 cases = (
   record {
     code-5A = λ s. raster-pattern-xor 8 0xFF s 0xF0;
@@ -563,6 +824,8 @@ cases = (
     pixels = record { foreground = refl; own-stride = refl; two-bytes = refl; four-bytes = refl; mono-colours = refl; mono-transparent = refl; mono-units = refl; solid-transparent = refl; pattern-right-down = refl; pattern-left-down = refl; pattern-right-up = refl; pattern-left-up = refl };
     negative-x = record { shifted-16 = refl; shifted-32 = refl; drawn-16 = refl; drawn-32 = refl; read-16 = refl; read-32 = refl; one-wide = refl; bytes-left = refl; left-in-progress = refl; fill-left = refl; pattern-left = refl; vectors-stay = refl };
     mono-sources = record { table-6-23 = refl; table-6-24 = refl; widths-from-0 = refl; widths-from-7 = refl; rows-back = refl; stride-0 = refl; wide-pixels = refl; by-pattern = refl; transparent-units = refl; by-both = refl; overwritten = refl; unselected = refl; directions = refl; source-bits = refl; bits-unpacked = refl; bits-packed = refl; bits-back = refl; bits-in-progress = refl };
+    table-loads = record { three-words = refl; index-skipped = refl; index-returns = refl; goes-on = refl; index-back = refl; all-words = refl; counts-wait = refl; counts-refused = refl; counts-taken = refl; header-first = refl; returns-wait = refl; returns-refused = refl; other-kinds = refl; load-returns = refl; across-end = refl; refused-load = refl; table-kept = refl };
+    color-patterns = record { corners-8 = refl; corners-16 = refl; corners-32 = refl; tile-right-down = refl; tile-left-down = refl; tile-right-up = refl; tile-left-up = refl; tile-16 = refl; channel-3-tile = refl; channel-3-bits = refl; channel-3-left-up = refl; channel-3-off = refl; with-source = refl; by-source = refl; tile-units = refl; load-and-draw = refl; channel-3-taken = refl; channel-3-modes = refl; channel-3-formats = refl; pattern-modes = refl; channel-3-vectors = refl; tile-in-progress = refl };
     vectors = record { zero-error = refl; other-axis = refl; vector-words = refl; vector-frame = refl };
   },
   record { shop-setup = refl; shop-publish = refl; shop-run = refl; shop-read = refl; shop-write = refl; shop-retired = refl; shop-frame = refl; shop-budgets = refl; shop-load = refl },

@@ -1,18 +1,19 @@
--- Commands in the ring: header, kind, length, what is drawn, wholeness, and the loading of the enabled words (document 01, The ring; 000,
--- Tables 6-8, 6-9 and 6-12).
+-- Commands in the ring: header, kind, length, what is drawn, wholeness, and the loading of the enabled words (document 01, The ring,
+-- and document 02, W4; 000, Tables 6-8, 6-9, 6-10 and 6-12).
 use Prim.Native.Nat.{ℕ, _+_, _-_, _%_}
-use mathlib.Core.Bool.{Bool, true, not, _&&_, _||_}
+use mathlib.Core.Bool.{Bool, true, false, not, _&&_, _||_}
 use mathlib.Core.List.{List, [], _∷_}
 use lib.ListN.{length, set}
 use Rattle.model.specs.Choice.{_<?_, _=?_, if_then_else_}
 use Rattle.model.specs.Refusals.{Rule, _when_}
 use Rattle.model.specs.Bits.{set?, field}
-use Rattle.model.specs.Registers.{RASTER-MODE, DST-OFFSET, SRC-OFFSET, STRIDE, WID-HEIGHT, SRC-COLOR-FG, SRC-COLOR-BG, PAT-COLOR-0, PAT-COLOR-1, PAT-DATA-0, PAT-DATA-1, CH3-OFFSET, CH3-MODE-STR, CH3-WIDHI, BASE-OFFSET, BLT-MODE, VECTOR-MODE, VEC-ERR, VEC-LEN}
+use Rattle.model.specs.Registers.{RASTER-MODE, DST-OFFSET, SRC-OFFSET, STRIDE, WID-HEIGHT, SRC-COLOR-FG, SRC-COLOR-BG, PAT-COLOR-0, PAT-COLOR-1, PAT-DATA-0, PAT-DATA-1, CH3-OFFSET, CH3-MODE-STR, CH3-WIDHI, BASE-OFFSET, BLT-MODE, VECTOR-MODE, LUT-INDEX, VEC-ERR, VEC-LEN, word}
 use Rattle.model.specs.Ring.{wordAt}
+use Rattle.model.specs.Lookup.{dataCount, badCount, indexAfter, dataStored}
 use Rattle.model.specs.declared.Drawn.{Drawn}
 use Rattle.model.specs.declared.Drawn.the-variants.{Nothing, Draws}
 use Rattle.model.specs.declared.Kind.{Kind}
-use Rattle.model.specs.declared.Kind.the-variants.{Blt, Vector}
+use Rattle.model.specs.declared.Kind.the-variants.{Blt, Vector, Table}
 use Rattle.model.specs.declared.Primitive.{Primitive}
 use Rattle.model.specs.declared.Primitive.the-variants.{Blt as BltPrimitive, Vector as VectorPrimitive}
 
@@ -22,21 +23,23 @@ use Rattle.model.specs.declared.Primitive.the-variants.{Blt as BltPrimit
 abbrev pub returns : ℕ → Bool
 returns header = set? header 31
 
--- "bits 30:29 kind (00 BLT, 01 vector)"; of other kinds, which 21 refuses, nothing asks
+-- "bits 30:29 kind (00 BLT, 01 vector)", 10 a table load (000, Table 6-10); of kind 11, which 21 refuses, nothing asks
 unfoldable pub kindOf : ℕ → Kind
-kindOf header = if field header 30 29 =? 0b00 then Blt else Vector
+kindOf header = if field header 30 29 =? 0b00 then Blt else if field header 30 29 =? 0b01 then Vector else Table
 
--- 21: "header kind 10 or 11, or a header bit set that must be zero". W, kind, S (bit 28) and the write enables, 15:0 of a BLT
--- and 12:0 of a vector, may be set: "all other header bits are zero"
+-- 21: "header kind 10 or 11, or a header bit set that must be zero", where W4 has "21 stops covering kind 10". W, kind, S (bit 28)
+-- and the write enables, 15:0 of a BLT, 12:0 of a vector and 1:0 of a table load, may be set: "all other header bits are zero"
 unfoldable pub badHeader : ℕ → Bool
 badHeader header =
     if field header 30 29 =? 0b00 then not (field header 27 16 =? 0)
     else if field header 30 29 =? 0b01 then not (field header 27 13 =? 0)
+    else if field header 30 29 =? 0b10 then not (field header 27 2 =? 0)
     else true
 
 -- ---- layout
 
--- the registers of the words after the header, in order
+-- the registers of the words after the header, in order. Of a table load's words the first is one: "Header bit 0 enables the
+-- index". Then come its count word, which bit 1 leaves as it is, and the data
 abbrev pub wordRegisters : Kind → List ℕ
 wordRegisters Blt =
     RASTER-MODE ∷ DST-OFFSET ∷ SRC-OFFSET ∷ STRIDE ∷ WID-HEIGHT ∷ SRC-COLOR-FG ∷ SRC-COLOR-BG ∷ PAT-COLOR-0 ∷ PAT-COLOR-1
@@ -44,21 +47,29 @@ wordRegisters Blt =
 wordRegisters Vector =
     RASTER-MODE ∷ DST-OFFSET ∷ VEC-ERR ∷ STRIDE ∷ VEC-LEN ∷ SRC-COLOR-FG ∷ PAT-COLOR-0 ∷ PAT-COLOR-1 ∷ PAT-DATA-0
     ∷ PAT-DATA-1 ∷ CH3-MODE-STR ∷ BASE-OFFSET ∷ VECTOR-MODE ∷ []
+wordRegisters Table = LUT-INDEX ∷ []
 
--- "BLT, 17 words", "Vector, 14 words": the header and those
-abbrev pub commandLength : Kind → ℕ
-commandLength kind = 1 + length (wordRegisters kind)
+-- the word that a table load has its count in, of the command at `read`
+abbrev pub countWord : List ℕ → ℕ → ℕ
+countWord ring read = wordAt ring read 2
+
+-- "BLT, 17 words", "Vector, 14 words": the header and those; a table load is header, index, count word and data. `counted` is its
+-- count word, which no other kind has
+abbrev pub commandLength : Kind → (counted : ℕ) → ℕ
+commandLength Blt counted = 1 + length (wordRegisters Blt)
+commandLength Vector counted = 1 + length (wordRegisters Vector)
+commandLength Table counted = 3 + dataCount counted
 
 -- ---- what it draws
 
-abbrev pub primitiveOf : Kind → Primitive
-primitiveOf Blt = BltPrimitive
-primitiveOf Vector = VectorPrimitive
-
 -- "If the last enable (BLT 15, vector 12) is clear, the command only loads its enabled registers."
+abbrev pub drawnOf : Kind → ℕ → Drawn
+drawnOf Blt header = if set? header 15 then Draws BltPrimitive else Nothing
+drawnOf Vector header = if set? header 12 then Draws VectorPrimitive else Nothing
+drawnOf Table header = Nothing
+
 unfoldable pub drawnBy : ℕ → Drawn
-drawnBy header =
-    if set? header (length (wordRegisters (kindOf header)) - 1) then Draws (primitiveOf (kindOf header)) else Nothing
+drawnBy header = drawnOf (kindOf header) header
 
 -- ---- waiting for a command of so many words, with W or without
 
@@ -66,10 +77,26 @@ drawnBy header =
 unfoldable pub badReturn : (size read length : ℕ) → Bool → Bool
 badReturn size read length w = w && (read =? 0 || size <? read + length)
 
--- the rules that the header alone decides
-abbrev pub headerRules : (size read header length : ℕ) → List Rule
-headerRules size read header length =
-    21 when badHeader header ∷ 22 when badReturn size read length (returns header) ∷ []
+-- 29, of a table load
+abbrev pub badTable : Kind → (counted : ℕ) → Bool
+badTable Blt counted = false
+badTable Vector counted = false
+badTable Table counted = badCount counted
+
+-- the rules that the header decides, of a table load with its count word, in the order of judging: 29 stands "before 22"
+abbrev pub headerRules : (size read header counted : ℕ) → List Rule
+headerRules size read header counted =
+    21 when badHeader header
+    ∷ 29 when badTable (kindOf header) counted
+    ∷ 22 when badReturn size read (commandLength (kindOf header) counted) (returns header)
+    ∷ []
+
+-- "21 and 22 are judged as soon as the header waits"; 29 "as soon as three words wait and before 22, which for this kind waits for
+-- them too": the words that must wait before 29 and 22 are judged
+abbrev pub judgedWords : Kind → ℕ
+judgedWords Blt = 1
+judgedWords Vector = 1
+judgedWords Table = 3
 
 -- "It is whole when all its words wait and, with W, when the words waiting also reach the ring's end": so many must wait
 unfoldable pub wholeWords : (size read length : ℕ) → Bool → ℕ
@@ -89,6 +116,26 @@ loadWords ring read header (r ∷ rest) i registers =
     loadWords ring read header rest (i + 1)
     (if set? header i then set registers r (wordAt ring read (i + 1)) else registers)
 
+-- the registers with the words that a command has for them
+abbrev pub enabled : List ℕ → ℕ → ℕ → List ℕ → List ℕ
+enabled ring read header registers = loadWords ring read header (wordRegisters (kindOf header)) 0 registers
+
+-- a table load leaves the index advanced by its data
+abbrev pub advanced : Kind → (counted : ℕ) → List ℕ → List ℕ
+advanced Blt counted registers = registers
+advanced Vector counted registers = registers
+advanced Table counted registers = set registers LUT-INDEX (indexAfter (dataCount counted) (word registers LUT-INDEX))
+
 -- the registers as they would be after loading the command at `read`
 unfoldable pub loaded : List ℕ → ℕ → ℕ → List ℕ → List ℕ
-loaded ring read header registers = loadWords ring read header (wordRegisters (kindOf header)) 0 registers
+loaded ring read header registers = advanced (kindOf header) (countWord ring read) (enabled ring read header registers)
+
+-- and the table: the data, from word 3 of a table load on, go into it from the index on
+abbrev pub filled : Kind → List ℕ → ℕ → (index : ℕ) → List ℕ → List ℕ
+filled Blt ring read index table = table
+filled Vector ring read index table = table
+filled Table ring read index table = dataStored ring read 3 (dataCount (countWord ring read)) index table
+
+unfoldable pub loadedTable : List ℕ → ℕ → ℕ → List ℕ → List ℕ → List ℕ
+loadedTable ring read header registers table =
+    filled (kindOf header) ring read (word (enabled ring read header registers) LUT-INDEX) table

@@ -34,7 +34,7 @@ abbrev pub oneUnit : List ℕ → Configuration → Configuration
 oneUnit ring y =
     let next = unit ring (machineOf (y .state) (y .frame)) in
     record {
-      state = record { core = next .core; write = y .state .write };
+      state = record { core = next .core; table = next .table; write = y .state .write };
       frame = next .frame;
       sum = y .sum + 1;
     }

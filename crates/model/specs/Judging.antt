@@ -6,7 +6,7 @@ use lib.IntN.{pos}
 use lib.Signed.{ltZ}
 use Rattle.model.specs.Choice.{_=?_}
 use Rattle.model.specs.Refusals.{Rule, _when_, first}
-use Rattle.model.specs.Registers.{word, BASE-OFFSET, formatCode, alphaEnable, sourceInversion, patternInversion, sourceTransparency, patternMode, channel3Enable, xNegative, yNegative, sourceMode, sourceSelect, width, height, vectorLength}
+use Rattle.model.specs.Registers.{word, BASE-OFFSET, formatCode, alphaEnable, sourceInversion, patternInversion, sourceTransparency, patternMode, channel3Enable, channel3ToSource, channel3Format, channel3Rotation, channel3Bgr, channel3PatternMode, channel3Preserve, channel3Prefetch, channel3Host, xNegative, yNegative, sourceMode, sourceSelect, width, height, vectorLength}
 use Rattle.model.specs.Formats.{formatOf}
 use Rattle.model.specs.Rectangle.{rectangleOutside}
 use Rattle.model.specs.BltPixel.{monoMode, bltOf, sourceOutside}
@@ -25,9 +25,23 @@ module _ (registers : List ℕ) where
   abbrev pub row23 : Bool
   row23 = refusedFormat (formatOf (formatCode registers)) || not (alphaEnable registers =? 0b00)
 
-  -- 24, for both kinds: document 02's W1 "keeps pattern inversion", document 01 "channel 3 enabled, or BASE_OFFSET not 0"
+  -- 24, for both kinds: document 02's W1 "keeps pattern inversion", document 01 "BASE_OFFSET not 0"
   abbrev pub row24Both : Bool
-  row24Both = patternInversion registers || channel3Enable registers || not (word registers BASE-OFFSET =? 0)
+  row24Both = patternInversion registers || not (word registers BASE-OFFSET =? 0)
+
+  -- W4: "further mode bits but X and Y"
+  abbrev pub channel3Further : Bool
+  channel3Further =
+      channel3Rotation registers || channel3Bgr registers || channel3Preserve registers || channel3Prefetch registers
+      || channel3Host registers
+
+  -- 24, of a BLT's channel 3: W4 "keeps channel 3 enabled without that mode, steered to the source, in another format than
+  -- RASTER_MODE's, or with further mode bits but X and Y set"
+  abbrev pub row24Channel3 : Bool
+  row24Channel3 =
+      channel3Enable registers
+      && (not (channel3PatternMode registers) || channel3ToSource registers
+      || not (channel3Format registers =? formatCode registers) || channel3Further)
 
   -- W1: "both source bits on vectors and colour modes"
   abbrev pub sourceBits : Bool
@@ -44,15 +58,16 @@ module _ (registers : List ℕ) where
   row24Source = monoBack || sourceMode registers =? 0b00 && sourceBits
 
   -- 24: "a source or pattern mode field with a code not carried (used by the pixels or not; BLT_MODE is judged for a BLT
-  -- only)", "a vector with a pattern that isn't solid"
+  -- only)", "a vector with a pattern that isn't solid, channel 3 enabled"
   abbrev pub row24 : Primitive → Bool
   row24 Blt =
       sourceMode registers =? 0b11
       || not (sourceSelect registers =? 0b00 || sourceSelect registers =? 0b01)
-      || not (patternMode registers =? 0b00 || patternMode registers =? 0b01)
+      || patternMode registers =? 0b11
       || row24Source
+      || row24Channel3
       || row24Both
-  row24 Vector = not (patternMode registers =? 0b00) || sourceBits || row24Both
+  row24 Vector = not (patternMode registers =? 0b00) || sourceBits || channel3Enable registers || row24Both
 
   -- 25: "width, height or vector length 0"
   abbrev pub row25 : Primitive → Bool

@@ -5,6 +5,7 @@ pub mod Limits
 pub mod Registers
 pub mod Formats
 pub mod Ring
+pub mod Lookup
 pub mod Pixel
 pub mod Raster
 pub mod Pattern

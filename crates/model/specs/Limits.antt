@@ -1,10 +1,11 @@
--- The ranges that document 01 names: "a lent run of 1 to 16,777,216 bytes", "a lent run of 64 to 16,384 words of 32 bits", "a
--- budget of 0 to 4,294,967,295 units"; the numbers that stop the engine, "21 and above in this table"; and the largest width,
--- height and vector length, fields of 12 bits each (000).
+-- The ranges that document 01 names: "a lent run of 1 to 16,777,216 bytes", "a lent run of 64 to 16,384 words of 32 bits", where
+-- document 02's W4 has "number 1 now refuses rings below 1,024", "a budget of 0 to 4,294,967,295 units"; the numbers that stop
+-- the engine, "21 and above in this table", with W4's 29; W4's "512-word table"; and the largest width, height and vector length,
+-- fields of 12 bits each (000).
 use Prim.Native.Nat.{ℕ}
 
 abbrev pub ringLeast : ℕ
-ringLeast = 64
+ringLeast = 1_024
 
 abbrev pub ringMost : ℕ
 ringMost = 16_384
@@ -22,4 +23,7 @@ abbrev pub stopLeast : ℕ
 stopLeast = 21
 
 abbrev pub stopMost : ℕ
-stopMost = 28
+stopMost = 29
+
+abbrev pub tableLength : ℕ
+tableLength = 512

@@ -1,9 +1,9 @@
 -- Refusals: rules in the order in which they are judged, each a number and a test. What is answered is the number of the first
 -- whose test holds, or 0 where none does. (A later number can be judged before an earlier one, so the order is the list's.)
-use Prim.Native.Nat.{ℕ, _≤_, _<_}
-use mathlib.Core.Path.{_≡_, refl, sym, subst}
+use Prim.Native.Nat.{ℕ, zero, suc, _+_, _*_, _<_}
+use mathlib.Core.Path.{_≡_, refl, sym, ap, subst}
 use mathlib.Core.Bool.{Bool, true, false, _&&_, _||_}
-use mathlib.Core.Logic.{_↔_, ⊎-elim}
+use mathlib.Core.Logic.{_↔_, _⊎_, inl, inr, ⊎-elim}
 use mathlib.Core.List.{List, [], _∷_, _++_}
 use native.Mathlib.Omega.{arith}
 use borrow.Author.Tests.{ltb-true, ltb-false, lt-ltb, ne-eqb}
@@ -45,10 +45,14 @@ pub record Exactly (rules : List Rule) (number : ℕ) : Type 0 where
 
 -- ---- "Where several apply the lowest wins"
 
--- the numbers rise: the first above `least`, each above the one before
+-- the order of the numbers, in which W4 has 29 judged after 21 and "before 22"
+abbrev pub order : ℕ → ℕ
+order n = if n =? 29 then 2 * 21 + 1 else 2 * n
+
+-- the numbers rise in that order: the first above `least`, each above the one before
 unfoldable pub rising : ℕ → List Rule → Bool
 rising least [] = true
-rising least (rule ∷ rules) = least <? rule .number && rising (rule .number) rules
+rising least (rule ∷ rules) = least <? order (rule .number) && rising (order (rule .number)) rules
 
 -- some rule with number n applies
 pub data Applies : List Rule → ℕ → Type 0 where
@@ -57,7 +61,7 @@ pub data Applies : List Rule → ℕ → Type 0 where
 
 -- the lowest number that applies
 abbrev pub Lowest : List Rule → ℕ → Type 0
-Lowest rules n = Applies rules n × ((m : ℕ) → m < n → Applies rules m → ⊥)
+Lowest rules n = Applies rules n × ((m : ℕ) → order m < order n → Applies rules m → ⊥)
 
 -- ---- laws
 
@@ -66,12 +70,17 @@ unfoldable pub positive : List Rule → Bool
 positive [] = true
 positive (rule ∷ rules) = 0 <? rule .number && positive rules
 
+order-positive : (n : ℕ) → 0 < order n → 0 < n
+order-positive zero l = l
+order-positive (suc n) l = omega arith
+
 pub rising-positive : (least : ℕ) (rules : List Rule) → rising least rules ≡ true → positive rules ≡ true
 unfolding rising positive
 rising-positive least [] e = refl
 rising-positive least (rule ∷ rules) e =
-    let h = both (least <? rule .number) _ e in
-    rw (lt-ltb 0 (rule .number) (omega (arith, ltb-true least (rule .number) (h .0)))) (rising-positive (rule .number) rules (h .1))
+    let h = both (least <? order (rule .number)) _ e in
+    let l = order-positive (rule .number) (omega (arith, ltb-true least (order (rule .number)) (h .0))) in
+    rw (lt-ltb 0 (rule .number) l) (rising-positive (order (rule .number)) rules (h .1))
 
 -- a list from its head on, test by test
 pub first-here : (rule : Rule) (rules : List Rule) → rule .applies ≡ true → rule .number ≡ first (rule ∷ rules)
@@ -134,24 +143,26 @@ first-applies : {rules : List Rule} {n : ℕ} → First rules n → Applies rule
 first-applies (here p) = this p
 first-applies (later p f) = other (first-applies f)
 
-rising-above : (least : ℕ) {rules : List Rule} {n : ℕ} → rising least rules ≡ true → Applies rules n → least < n
+rising-above : (least : ℕ) {rules : List Rule} {n : ℕ} → rising least rules ≡ true → Applies rules n → least < order n
 unfolding rising
-rising-above least e (this {rule} p) = ltb-true least (rule .number) (both (least <? rule .number) _ e .0)
+rising-above least e (this {rule} p) = ltb-true least (order (rule .number)) (both (least <? order (rule .number)) _ e .0)
 rising-above least e (other {rule} a) =
-    let h = both (least <? rule .number) _ e in
-    omega (arith, ltb-true least (rule .number) (h .0), rising-above (rule .number) (h .1) a)
+    let h = both (least <? order (rule .number)) _ e in
+    omega (arith, ltb-true least (order (rule .number)) (h .0), rising-above (order (rule .number)) (h .1) a)
 
-rising-first : (least : ℕ) {rules : List Rule} {m n : ℕ} → rising least rules ≡ true → First rules n → Applies rules m → n ≤ m
+-- of a rising list the first that applies comes before every other that does
+rising-first : (least : ℕ) {rules : List Rule} {m n : ℕ} → rising least rules ≡ true → First rules n → Applies rules m
+    → (n ≡ m) ⊎ (order n < order m)
 unfolding rising
-rising-first least e (here p) (this q) = omega arith
-rising-first least e (here {rule} p) (other a) = omega (arith, rising-above (rule .number) (both (least <? rule .number) _ e .1) a)
+rising-first least e (here p) (this q) = inl refl
+rising-first least e (here {rule} p) (other a) = inr (rising-above (order (rule .number)) (both (least <? order (rule .number)) _ e .1) a)
 rising-first least e (later p f) (this q) = absurd (not-both _ q p)
-rising-first least e (later {rule} p f) (other a) = rising-first (rule .number) (both (least <? rule .number) _ e .1) f a
+rising-first least e (later {rule} p f) (other a) = rising-first (order (rule .number)) (both (least <? order (rule .number)) _ e .1) f a
 
 -- where the numbers rise the first is the lowest
 pub first-lowest : (rules : List Rule) → rising 0 rules ≡ true → (n : ℕ) → First rules n ↔ Lowest rules n
 first-lowest rules e n = (
-  (λ f. (first-applies f, λ m l a. omega (arith, rising-first 0 e f a))),
+  (λ f. (first-applies f, λ m l a. ⊎-elim (λ q. let s = ap order q in omega arith) (λ q. omega arith) (rising-first 0 e f a))),
   (λ h. go h (search-rules rules (rising-positive 0 rules e))),
 )
   where
@@ -162,9 +173,7 @@ first-lowest rules e n = (
     go : Lowest rules n → Search rules → First rules n
     go h (none q z) = absurd (none-applies q (h .0))
     go h (found f l) =
-        let low = rising-first 0 e f (h .0) in
-        ⊎-elim (λ t. absurd (h .1 (first rules) (omega (arith, ltb-true (first rules) n t)) (first-applies f)))
-        (λ t. subst (First rules) (omega (arith, ltb-false (first rules) n t)) f) (true-or-false (first rules <? n))
+        ⊎-elim (λ t. subst (First rules) t f) (λ t. absurd (h .1 (first rules) t (first-applies f))) (rising-first 0 e f (h .0))
 
 -- what holds of every number of a list
 abbrev pub Each : (ℕ → Type 0) → List Rule → Type 0

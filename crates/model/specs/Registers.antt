@@ -6,10 +6,11 @@ use mathlib.Core.List.{List}
 use lib.ListN.{getD}
 use Rattle.model.specs.Bits.{set?, field}
 
--- ---- the registers, in the order of a BLT's words; VECTOR_MODE, the one register that only a vector writes, comes last
+-- ---- the registers, in the order of a BLT's words; then VECTOR_MODE, which only a vector writes, and LUT_INDEX, which only a
+-- table load writes
 
 abbrev pub registerCount : ℕ
-registerCount = 17
+registerCount = 18
 
 abbrev pub RASTER-MODE : ℕ
 RASTER-MODE = 0
@@ -61,6 +62,9 @@ BLT-MODE = 15
 
 abbrev pub VECTOR-MODE : ℕ
 VECTOR-MODE = 16
+
+abbrev pub LUT-INDEX : ℕ
+LUT-INDEX = 17
 
 -- "Names at the same register offset in 000's summary are one register": 04h and 0Ch have two names each
 abbrev pub VEC-ERR : ℕ
@@ -153,10 +157,42 @@ module _ (registers : List ℕ) where
   abbrev pub initialField : ℕ
   initialField = field (word registers VEC-LEN) 15 0
 
-  -- ---- GP_CH3_MODE_STR, 64h: EN 31
+  -- ---- GP_CH3_OFFSET, 60h: YLSBS 31:29, XLSBS 28:26
+
+  abbrev pub channel3Row : ℕ
+  channel3Row = field (word registers CH3-OFFSET) 31 29
+
+  abbrev pub channel3Column : ℕ
+  channel3Column = field (word registers CH3-OFFSET) 28 26
+
+  -- ---- GP_CH3_MODE_STR, 64h: EN 31, PS 30 (1 is the source pipeline), BPP/FMT 27:24, RO 23, BGR 22, PM 21, PL 20, PE 19, HS 18
 
   abbrev pub channel3Enable : Bool
   channel3Enable = set? (word registers CH3-MODE-STR) 31
+
+  abbrev pub channel3ToSource : Bool
+  channel3ToSource = set? (word registers CH3-MODE-STR) 30
+
+  abbrev pub channel3Format : ℕ
+  channel3Format = field (word registers CH3-MODE-STR) 27 24
+
+  abbrev pub channel3Rotation : Bool
+  channel3Rotation = set? (word registers CH3-MODE-STR) 23
+
+  abbrev pub channel3Bgr : Bool
+  channel3Bgr = set? (word registers CH3-MODE-STR) 22
+
+  abbrev pub channel3PatternMode : Bool
+  channel3PatternMode = set? (word registers CH3-MODE-STR) 21
+
+  abbrev pub channel3Preserve : Bool
+  channel3Preserve = set? (word registers CH3-MODE-STR) 20
+
+  abbrev pub channel3Prefetch : Bool
+  channel3Prefetch = set? (word registers CH3-MODE-STR) 19
+
+  abbrev pub channel3Host : Bool
+  channel3Host = set? (word registers CH3-MODE-STR) 18
 
   -- ---- GP_BLT_MODE, 40h: X 9, Y 8 (1 is negative), SM 7:6, SR 1:0
 

@@ -9,7 +9,7 @@ use native.Mathlib.Omega.{arith}
 use borrow.Author.Tests.{leb-true, le-leb, eqb-true, eqb-false}
 use Rattle.model.specs.Choice.{_=?_, both, either, or-left, or-right}
 use Rattle.model.specs.Ring.{waiting}
-use Rattle.model.specs.Unit.{Machine, commandRefusal, needed, ready, stopped, loadedCore, drawnCore, drawPixel, unitAt, unit, drawing, possible}
+use Rattle.model.specs.Unit.{Machine, commandRefusal, needed, ready, stopped, loadedCore, tableAfter, drawnCore, drawPixel, unitAt, unit, drawing, possible}
 use Rattle.model.specs.declared.Core.{Core}
 use Rattle.model.specs.declared.Place.{Place}
 use Rattle.model.specs.declared.Place.the-variants.{Idle, Drawing}
@@ -17,19 +17,20 @@ use Rattle.model.specs.declared.Primitive.{Primitive}
 
 -- ---- what a unit is
 
-abbrev pub machine : Core → List ℕ → Machine
-machine c frame = record { core = c; frame = frame }
+abbrev pub machine : Core → (table frame : List ℕ) → Machine
+machine c table frame = record { core = c; table = table; frame = frame }
 
 -- it loads a command, refuses one, or draws a pixel. "A bad command stops the engine with its number, unexecuted, registers
 -- and frame memory unchanged"
 pub data Step (ring : List ℕ) (m : Machine) : Type 0 where
   loads : drawing (m .core .place) ≡ false → commandRefusal ring (m .core) ≡ 0
-      → unit ring m ≡ machine (loadedCore ring (m .core)) (m .frame) → Step ring m
+      → unit ring m ≡ machine (loadedCore ring (m .core)) (tableAfter ring (m .core) (m .table)) (m .frame) → Step ring m
   refuses : drawing (m .core .place) ≡ false → (commandRefusal ring (m .core) ≡ 0 → ⊥)
-      → unit ring m ≡ machine (stopped (m .core) (commandRefusal ring (m .core))) (m .frame) → Step ring m
+      → unit ring m ≡ machine (stopped (m .core) (commandRefusal ring (m .core))) (m .table) (m .frame) → Step ring m
   draws : (primitive : Primitive) (k : ℕ) → m .core .place ≡ Drawing primitive k
       → unit ring m
-      ≡ machine (drawnCore (m .core) primitive (k + 1)) (drawPixel primitive (m .core .registers) k (m .frame)) → Step ring m
+      ≡ machine (drawnCore (m .core) primitive (k + 1)) (m .table) (drawPixel primitive (m .core .registers) (m .table) k (m .frame))
+      → Step ring m
 
 pub step-of : (ring : List ℕ) (m : Machine) → Step ring m
 unfolding unit

@@ -8,9 +8,9 @@ use Rattle.model.specs.Refusals.{Rule, first}
 use Rattle.model.specs.Ring.{waiting}
 use Rattle.model.specs.Completion.{retired}
 use Rattle.model.specs.Rectangle.{pixelsOf}
-use Rattle.model.specs.Command.{returns, kindOf, commandLength, drawnBy, headerRules, wholeWords, readAfter, loaded}
+use Rattle.model.specs.Command.{returns, kindOf, badHeader, countWord, commandLength, drawnBy, headerRules, judgedWords, wholeWords, readAfter, loaded, loadedTable}
 use Rattle.model.specs.Judging.{judgeRules}
-use Rattle.model.specs.BltPixel.{bltOf, drawBlt}
+use Rattle.model.specs.BltPixel.{colorPatternOf, bltOf, drawTiled}
 use Rattle.model.specs.VectorPixel.{vectorOf, drawVector}
 use Rattle.model.specs.declared.Core.{Core}
 use Rattle.model.specs.declared.Drawn.{Drawn}
@@ -20,9 +20,10 @@ use Rattle.model.specs.declared.Primitive.the-variants.{Blt, Vector}
 use Rattle.model.specs.declared.Place.{Place}
 use Rattle.model.specs.declared.Place.the-variants.{Idle, Drawing}
 
--- the engine state without the write pointer, and frame memory
+-- the engine state without the write pointer, and frame memory: the core, the lookup table and frame memory
 pub record Machine : Type 0 where
   pub core : Core
+  pub table : List ℕ
   pub frame : List ℕ
 
 -- ---- the command at the read pointer
@@ -33,16 +34,22 @@ headerAt ring c = getD ring (c .read) 0
 abbrev pub loadedAt : List ℕ → Core → List ℕ
 loadedAt ring c = loaded ring (c .read) (headerAt ring c) (c .registers)
 
--- its length, and its W
+-- its count word, where it has one, its length, and its W
+abbrev pub countedAt : List ℕ → Core → ℕ
+countedAt ring c = countWord ring (c .read)
+
 abbrev pub lengthAt : List ℕ → Core → ℕ
-lengthAt ring c = commandLength (kindOf (headerAt ring c))
+lengthAt ring c = commandLength (kindOf (headerAt ring c)) (countedAt ring c)
 
 abbrev pub returnsAt : List ℕ → Core → Bool
 returnsAt ring c = returns (headerAt ring c)
 
--- 21 and 22 of its header
+-- 21, 29 and 22
+abbrev pub rulesAt : List ℕ → Core → List Rule
+rulesAt ring c = headerRules (c .ringlength) (c .read) (headerAt ring c) (countedAt ring c)
+
 unfoldable pub headerRefusal : List ℕ → Core → ℕ
-headerRefusal ring c = first (headerRules (c .ringlength) (c .read) (headerAt ring c) (lengthAt ring c))
+headerRefusal ring c = first (rulesAt ring c)
 
 -- "23 to 28 only for commands that draw, on the registers as they would be after loading"
 abbrev pub drawnRules : Drawn → List ℕ → ℕ → List Rule
@@ -51,17 +58,20 @@ drawnRules (Draws primitive) registers framelength = judgeRules primitive regist
 
 abbrev pub commandRules : List ℕ → Core → List Rule
 commandRules ring c =
-    headerRules (c .ringlength) (c .read) (headerAt ring c) (lengthAt ring c)
-    ++ drawnRules (drawnBy (headerAt ring c)) (loadedAt ring c) (c .framelength)
+    rulesAt ring c ++ drawnRules (drawnBy (headerAt ring c)) (loadedAt ring c) (c .framelength)
 
 unfoldable pub commandRefusal : List ℕ → Core → ℕ
 commandRefusal ring c = first (commandRules ring c)
+
+-- so many words must wait before it is refused by its header or its count word: one for 21, and as many as its kind has for 29 and 22
+abbrev pub refusedWords : List ℕ → Core → ℕ
+refusedWords ring c = if badHeader (headerAt ring c) then 1 else judgedWords (kindOf (headerAt ring c))
 
 -- "21 and 22 are judged as soon as the header waits, the others when the command is whole": the words that must wait before
 -- it can be loaded or refused
 unfoldable pub needed : List ℕ → Core → ℕ
 needed ring c =
-    if headerRefusal ring c =? 0 then wholeWords (c .ringlength) (c .read) (lengthAt ring c) (returnsAt ring c) else 1
+    if headerRefusal ring c =? 0 then wholeWords (c .ringlength) (c .read) (lengthAt ring c) (returnsAt ring c) else refusedWords ring c
 
 unfoldable pub ready : List ℕ → Core → ℕ → Bool
 ready ring c write = needed ring c ≤? waiting (c .ringlength) (c .read) write
@@ -101,6 +111,10 @@ loadedCore ring c =
       place = placeAfter drawn;
     }
 
+-- and, of a table load, the table: "its load is one unit" whatever its count
+unfoldable pub tableAfter : List ℕ → Core → List ℕ → List ℕ
+tableAfter ring c table = loadedTable ring (c .read) (headerAt ring c) (c .registers) table
+
 -- ---- the command that is being drawn
 
 -- how many pixels it has: "LENGTH pixels are drawn" of a vector
@@ -109,9 +123,9 @@ pixelCount Blt registers = pixelsOf (bltOf registers .destination)
 pixelCount Vector registers = vectorOf registers .length
 
 -- frame memory after its pixel number k
-unfoldable pub drawPixel : Primitive → List ℕ → ℕ → List ℕ → List ℕ
-drawPixel Blt registers k frame = drawBlt (bltOf registers) k frame
-drawPixel Vector registers k frame = drawVector (vectorOf registers) k frame
+unfoldable pub drawPixel : Primitive → (registers table : List ℕ) → ℕ → List ℕ → List ℕ
+drawPixel Blt registers table k frame = drawTiled (colorPatternOf registers) table (bltOf registers) k frame
+drawPixel Vector registers table k frame = drawVector (vectorOf registers) k frame
 
 -- the core once k of its pixels are drawn: "a command is retired by its last pixel"
 unfoldable pub drawnCore : Core → Primitive → ℕ → Core
@@ -132,10 +146,14 @@ drawnCore c primitive k =
 -- "One unit is either the loading of one whole command (judging included) or the drawing of one pixel."
 unfoldable pub unitAt : List ℕ → Place → Machine → Machine
 unitAt ring Idle m =
-    if commandRefusal ring (m .core) =? 0 then record { core = loadedCore ring (m .core); frame = m .frame }
-    else record { core = stopped (m .core) (commandRefusal ring (m .core)); frame = m .frame }
-unitAt ring (Drawing primitive k) m =
-    record { core = drawnCore (m .core) primitive (k + 1); frame = drawPixel primitive (m .core .registers) k (m .frame) }
+    if commandRefusal ring (m .core) =? 0
+    then record { core = loadedCore ring (m .core); table = tableAfter ring (m .core) (m .table); frame = m .frame }
+    else record { core = stopped (m .core) (commandRefusal ring (m .core)); table = m .table; frame = m .frame }
+unitAt ring (Drawing primitive k) m = record {
+  core = drawnCore (m .core) primitive (k + 1);
+  table = m .table;
+  frame = drawPixel primitive (m .core .registers) (m .table) k (m .frame);
+}
 
 unfoldable pub unit : List ℕ → Machine → Machine
 unit ring m = unitAt ring (m .core .place) m

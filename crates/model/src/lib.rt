@@ -2,7 +2,7 @@
 
 // ---- limits, and the registers by their numbers (specs/Limits and specs/Registers have the same)
 
-pub const RING_LEAST: usize = 64;
+pub const RING_LEAST: usize = 1024;
 
 pub const RING_MOST: usize = 16384;
 
@@ -10,9 +10,13 @@ pub const FRAME_MOST: usize = 16777216;
 
 pub const STOP_LEAST: u32 = 21;
 
-pub const STOP_MOST: u32 = 28;
+pub const STOP_MOST: u32 = 29;
 
-pub const REGISTERS: usize = 17;
+pub const TABLE: usize = 512;
+
+pub const TILE: usize = 256;
+
+pub const REGISTERS: usize = 18;
 
 pub const RASTER_MODE: usize = 0;
 
@@ -36,6 +40,8 @@ pub const PAT_DATA_0: usize = 9;
 
 pub const PAT_DATA_1: usize = 10;
 
+pub const CH3_OFFSET: usize = 11;
+
 pub const CH3_MODE_STR: usize = 12;
 
 pub const BASE_OFFSET: usize = 14;
@@ -43,6 +49,8 @@ pub const BASE_OFFSET: usize = 14;
 pub const BLT_MODE: usize = 15;
 
 pub const VECTOR_MODE: usize = 16;
+
+pub const LUT_INDEX: usize = 17;
 
 // Two names of one register each.
 pub const VEC_ERR: usize = SRC_OFFSET;
@@ -61,6 +69,7 @@ pub enum Format {
 pub enum Kind {
     Blt,
     Vector,
+    Table,
 }
 
 // What can be drawn.
@@ -98,9 +107,10 @@ pub struct Core {
     pub place: Place,
 }
 
-// The engine state.
+// The engine state. The lookup table stands beside the core, so that no unit copies it.
 pub struct State {
     pub core: Core,
+    pub table: [u32; TABLE],
     pub write: usize,
 }
 
@@ -195,6 +205,13 @@ pub struct MonoPattern {
 pub enum Pattern {
     Solid(u32),
     Mono(MonoPattern),
+}
+
+// A BLT's colour pattern, which stands in place of its other pattern: none, or its tile in the lookup table, with the row and
+// column of the first pixel.
+pub enum ColorPattern {
+    Absent,
+    Tile { row: usize, column: usize },
 }
 
 // What a pixel gets beside what stands there: nothing is written, or a pattern and a source value are combined with it.
