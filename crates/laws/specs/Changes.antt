@@ -15,7 +15,7 @@ use Rattle.model.specs.BltPixel.{drawAt}
 use Rattle.model.specs.declared.Blt.{Blt}
 use Rattle.laws.specs.Pixels.{Bytes, read-same, store-below, store-above, store-bytes, length-store, depth-least}
 use Rattle.laws.specs.Order.{inOrder, order-through, order-reverse, Remain, remain-next}
-use Rattle.laws.specs.Rows.{rowPixels, Row}
+use Rattle.laws.specs.Rows.{Row}
 use Rattle.laws.specs.Lows.{columnAt, lowByte, destination-span, place-byte, bytes-in}
 
 -- ---- stores that share no byte
@@ -144,32 +144,36 @@ module _ (depth : ℕ) (rule : ℕ → ℕ → ℕ) where
 
 -- ---- rows of a BLT
 
--- the pixel at place x of n from column i is changed by the rule of its place
-pub record Changes (b : Blt) (i j n : ℕ) (rule : ℕ → ℕ → ℕ) : Type 0 where
+-- the pixel at place x of n from column i, drawn so, is changed by the rule of its place
+pub record ChangesBy (draw : ℕ → List ℕ → List ℕ) (b : Blt) (i j n : ℕ) (rule : ℕ → ℕ → ℕ) : Type 0 where
   pub draws : (x : ℕ) → x < n → (frame : List ℕ) → Bytes frame
-      → drawAt b (columnAt (b .destination .columns .negative) i n x) j frame
+      → draw (columnAt (b .destination .columns .negative) i n x) frame
       ≡ changed (b .destination .depth) (rule x) (pixelByte (b .destination) (columnAt (b .destination .columns .negative) i n x) j) frame
 
-module _ {size : ℕ} {b : Blt} {i j n : ℕ} (r : Row size b i j n) (some : 0 < n) {rule : ℕ → ℕ → ℕ} (changes : Changes b i j n rule)
-    {a : ℕ} (low : a ≡ lowByte (b .destination) i j n) where
+-- of a BLT's own pixels
+abbrev pub Changes : Blt → (i j n : ℕ) → (ℕ → ℕ → ℕ) → Type 0
+Changes b i j n rule = ChangesBy (λ m. drawAt b m j) b i j n rule
+
+module _ {size : ℕ} {b : Blt} {i j n : ℕ} (r : Row size b i j n) (some : 0 < n) {draw : ℕ → List ℕ → List ℕ} {rule : ℕ → ℕ → ℕ}
+    (changes : ChangesBy draw b i j n rule) {a : ℕ} (low : a ≡ lowByte (b .destination) i j n) where
   -- such a row, changed from its lowest byte up
-  changes-row : (frame : List ℕ) → Bytes frame → changedRow (b .destination .depth) rule n a frame ≡ rowPixels b i j n frame
+  changes-row : (frame : List ℕ) → Bytes frame → changedRow (b .destination .depth) rule n a frame ≡ inOrder draw i n frame
   changes-row frame bytes = sym (go (b .destination .columns .negative) refl)
     where
       at : (x : ℕ) → x < n → (negative : Bool) → b .destination .columns .negative ≡ negative → (frame : List ℕ) → Bytes frame
-          → drawAt b (columnAt negative i n x) j frame ≡ changedAt (b .destination .depth) rule a x frame
+          → draw (columnAt negative i n x) frame ≡ changedAt (b .destination .depth) rule a x frame
       at x l negative e frame p =
-          ap (λ (v : Bool). drawAt b (columnAt v i n x) j frame) (sym e) ∙ changes .draws x l frame p
+          ap (λ (v : Bool). draw (columnAt v i n x) frame) (sym e) ∙ changes .draws x l frame p
           ∙ ap (λ (y : ℕ). changed (b .destination .depth) (rule x) y frame) (place-byte (destination-span r some) low x l)
 
       go : (negative : Bool) → b .destination .columns .negative ≡ negative
-          → rowPixels b i j n frame ≡ changedRow (b .destination .depth) rule n a frame
+          → inOrder draw i n frame ≡ changedRow (b .destination .depth) rule n a frame
       go false e =
-          order-through (λ m. drawAt b m j) (changedAt (b .destination .depth) rule a) (λ frame. frame) Bytes n i 0
+          order-through draw (changedAt (b .destination .depth) rule a) (λ frame. frame) Bytes n i 0
           (λ m l frame p. let z : 0 + m ≡ m = omega arith in rw z (at m l false e frame p, store-bytes (b .destination .depth) frame _ _ p))
           frame bytes
       go true e =
-          order-through (λ m. drawAt b m j) (λ m. changedAt (b .destination .depth) rule a (n - 1 - m)) (λ frame. frame) Bytes n i 0
+          order-through draw (λ m. changedAt (b .destination .depth) rule a (n - 1 - m)) (λ frame. frame) Bytes n i 0
           (λ m l frame p.
           let z : 0 + m ≡ m = omega arith in
           let y : i + (n - 1 - (n - 1 - m)) ≡ i + m = omega arith in
@@ -181,7 +185,7 @@ module _ {size : ℕ} {b : Blt} {i j n : ℕ} (r : Row size b i j n) (some : 0 <
   pub changes-part : (frame : List ℕ) {ys : List ℕ} → length frame ≡ size → Bytes frame
       → let part = take (a + n * b .destination .depth - a) (drop a frame) in
       ys ≡ changedRow (b .destination .depth) rule (length part / b .destination .depth) 0 part
-      → take a frame ++ (ys ++ drop (a + n * b .destination .depth - a) (drop a frame)) ≡ rowPixels b i j n frame
+      → take a frame ++ (ys ++ drop (a + n * b .destination .depth - a) (drop a frame)) ≡ inOrder draw i n frame
   changes-part frame s bytes written =
       let l = bytes-in (destination-span r some) low in
       written-part (b .destination .depth) rule (depth-least (r .fit .destination-fit .ranged .deep)) n a frame (omega arith) written

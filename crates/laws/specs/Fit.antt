@@ -7,7 +7,7 @@ use native.Mathlib.Omega.{arith}
 use native.Mathlib.Nat.{mod-lt, mul-pos}
 use borrow.Author.Tests.{leb-false, lt-leb, ltb-false, le-ltb, eqb-true, eq-eqb, ne-eqb, not-false}
 use Rattle.model.specs.Choice.{_<?_, _≤?_, _=?_, if_then_else_, not-both, neither, nonzero, if-both}
-use Rattle.model.specs.Refusals.{first, NoRule, Each, NoTest, rising, positive, rising-positive, exactly, none-first, first-each, first-append, any-none, none-any}
+use Rattle.model.specs.Refusals.{first, NoRule, Each, NoTest, order, rising, positive, rising-positive, exactly, none-first, first-each, first-append, any-none, none-any}
 use Rattle.model.specs.Registers.{width, height, vectorLength}
 use Rattle.model.specs.Limits.{ringLeast, ringMost, frameMost}
 use Rattle.model.specs.Ring.{waiting}
@@ -15,7 +15,7 @@ use Rattle.model.specs.Command.{badReturn, drawnBy, readAfter}
 use Rattle.model.specs.Judging.{judge, judgeRules, row25}
 use Rattle.model.specs.BltPixel.{bltOf, rectangleOf}
 use Rattle.model.specs.VectorPixel.{vectorOf}
-use Rattle.model.specs.Unit.{Machine, headerAt, loadedAt, lengthAt, returnsAt, headerRefusal, drawnRules, commandRules, commandRefusal, stopped, placeAfter, loadedCore, drawnCore, pixelCount, unit, drawing, possible}
+use Rattle.model.specs.Unit.{Machine, headerAt, loadedAt, lengthAt, returnsAt, rulesAt, headerRefusal, drawnRules, commandRules, commandRefusal, stopped, placeAfter, loadedCore, drawnCore, pixelCount, unit, drawing, possible}
 use Rattle.model.specs.Steps.{Step, loads, refuses, draws, step-of}
 use Rattle.model.specs.Calls.{badRing, badFrame, badStop, placeTests, unfitTests, unfit, setupRules, freshState, restarted}
 use Rattle.model.specs.declared.Core.{Core}
@@ -111,12 +111,12 @@ pub command-first : (ring : List ℕ) (c : Core) → commandRefusal ring c
 unfolding commandRefusal headerRefusal positive
 command-first ring c = first-append _ (drawnRules (drawnBy (headerAt ring c)) (loadedAt ring c) (c .framelength)) refl
 
--- their numbers rise
+-- their numbers rise, 29 standing before 22
 pub command-rises : (ring : List ℕ) (c : Core) → rising 0 (commandRules ring c) ≡ true
 unfolding rising
 command-rises ring c = go (drawnBy (headerAt ring c))
   where
-    go : (d : Drawn) → rising 22 (drawnRules d (loadedAt ring c) (c .framelength)) ≡ true
+    go : (d : Drawn) → rising (order 22) (drawnRules d (loadedAt ring c) (c .framelength)) ≡ true
     go Nothing = refl
     go (Draws primitive) = refl
 
@@ -124,7 +124,7 @@ command-rises ring c = go (drawnBy (headerAt ring c))
 pub command-stop : (ring : List ℕ) (c : Core) → badStop (commandRefusal ring c) ≡ false
 unfolding commandRefusal
 command-stop ring c =
-    first-each (λ n. badStop n ≡ false) (commandRules ring c) refl (refl, (refl, go (drawnBy (headerAt ring c))))
+    first-each (λ n. badStop n ≡ false) (commandRules ring c) refl (refl, (refl, (refl, go (drawnBy (headerAt ring c)))))
   where
     go : (d : Drawn) → Each (λ n. badStop n ≡ false) (drawnRules d (loadedAt ring c) (c .framelength))
     go Nothing = tt
@@ -157,17 +157,17 @@ module _ (ring : List ℕ) (c : Core) (accepted : commandRefusal ring c ≡ 0) w
 
   pub accepted-header : headerRefusal ring c ≡ 0
   unfolding headerRefusal positive
-  accepted-header = exactly _ refl .not-given .1 (no-rule .0, (no-rule .1 .0, tt))
+  accepted-header = exactly (rulesAt ring c) refl .not-given .1 (no-rule .0, (no-rule .1 .0, (no-rule .1 .1 .0, tt)))
 
   pub accepted-return : badReturn (c .ringlength) (c .read) (lengthAt ring c) (returnsAt ring c) ≡ false
-  accepted-return = no-rule .1 .0
+  accepted-return = no-rule .1 .1 .0
 
   pub accepted-judge : (primitive : Primitive) → drawnBy (headerAt ring c) ≡ Draws primitive
       → judge primitive (loadedAt ring c) (c .framelength) ≡ 0
   unfolding judge positive
   accepted-judge primitive d =
       exactly (judgeRules primitive (loadedAt ring c) (c .framelength)) refl .not-given .1
-      (subst (λ (x : Drawn). NoRule (drawnRules x (loadedAt ring c) (c .framelength))) d (no-rule .1 .1))
+      (subst (λ (x : Drawn). NoRule (drawnRules x (loadedAt ring c) (c .framelength))) d (no-rule .1 .1 .1))
 
 -- ---- units keep a state fit
 

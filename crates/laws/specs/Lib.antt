@@ -20,7 +20,9 @@ pub mod Lows
 pub mod Changes
 pub mod Words
 pub mod Wholes
+pub mod Eights
 pub mod Plain
 pub mod Moves
 pub mod Mixes
 pub mod Glyphs
+pub mod Tiles

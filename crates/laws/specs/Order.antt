@@ -22,8 +22,8 @@ bltPixels b = inOrder (drawBlt b)
 abbrev pub vectorPixels : Vector → ℕ → ℕ → List ℕ → List ℕ
 vectorPixels v = inOrder (drawVector v)
 
-abbrev pub pixels : Primitive → List ℕ → ℕ → ℕ → List ℕ → List ℕ
-pixels primitive registers = inOrder (drawPixel primitive registers)
+abbrev pub pixels : Primitive → (registers table : List ℕ) → ℕ → ℕ → List ℕ → List ℕ
+pixels primitive registers table = inOrder (drawPixel primitive registers table)
 
 module _ (draw : ℕ → List ℕ → List ℕ) where
   pub order-zero : (k : ℕ) (frame : List ℕ) → inOrder draw k 0 frame ≡ frame

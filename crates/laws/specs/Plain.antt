@@ -30,8 +30,9 @@ use Rattle.laws.specs.Pixels.{Bytes, store-low, store-raster, read-lt, s
 use Rattle.laws.specs.Windows.{low-bit}
 use Rattle.laws.specs.Patterns.{Turned}
 use Rattle.laws.specs.Lows.{lowColumn, columnAt}
-use Rattle.laws.specs.Order.{inOrder, order-same, order-add, order-length, Remain, remain-add}
-use Rattle.laws.specs.Changes.{changed, changedAt, changedRow, length-changed, Changes}
+use Rattle.laws.specs.Order.{order-same}
+use Rattle.laws.specs.Changes.{changed, changedAt, changedRow, Changes}
+use Rattle.laws.specs.Eights.{Round}
 
 -- ---- the source is not needed
 
@@ -227,54 +228,30 @@ mark-low depth {flip1} {keep1} {flip0} {keep0} {f1} {k1} {f0} {k0} one zero b bi
         → picked b i s c % 2 ^ (8 * depth) ≡ picked bits i set clear % 2 ^ (8 * depth)
     low i set clear p q = rw (p, q, picked-same b bits e i _ _) (picked-low (2 ^ (8 * depth)) bits i set clear)
 
--- the most of n pixels that make whole eights
-abbrev pub wholeEights : ℕ → ℕ
-wholeEights n = n - n % 8
-
--- those and the rest in a row of so many bytes
-pub eights-room : (depth size : ℕ) → let n = size / depth in wholeEights n * depth + n % 8 * depth ≤ size
-eights-room depth size =
-    let n = size / depth in
-    let all : wholeEights n + n % 8 ≡ n = omega arith in
-    omega (arith, rw all at (add-mul (wholeEights n) (n % 8) depth), div-mul-le-self size depth)
-
-module _ (depth bits flip1 keep1 flip0 keep0 : ℕ) where
-  abbrev rule : ℕ → ℕ → ℕ
-  rule = markRule bits flip1 keep1 flip0 keep0
-
-  -- c pixels from one whose number is a multiple of eight go by the bits as those from number 0 do
-  chunk-at : (c i at : ℕ) → i % 8 ≡ 0 → at ≡ i * depth → (row : List ℕ)
-      → changedRow depth rule c at row ≡ inOrder (changedAt depth rule 0) i c row
-  chunk-at c i at w a =
-      order-same (changedAt depth rule at) (changedAt depth rule 0) c 0 i
-      (λ m l row.
-      let z : (i + m) % 8 ≡ (0 + m) % 8 = omega arith in
-      let y : 0 + (i + m) * depth ≡ at + (0 + m) * depth = omega (arith, add-mul i m depth) in
-      rw (z, y))
-
-  -- so many more of a row whose writer goes by eights from pixel k
-  pub chunk-next : (k c : ℕ) {n : ℕ} {first : List ℕ} {m at : ℕ} {row next : List ℕ} → Remain (changedAt depth rule 0) k n first m row
-      → m + c ≤ n → (k + m) % 8 ≡ 0 → at ≡ (k + m) * depth → next ≡ changedRow depth rule c at row
-      → Remain (changedAt depth rule 0) k n first (m + c) next
-  chunk-next k c {m = m} {at} {row} r l w a e = remain-add (length-changed depth rule 0) r c l (e ∙ chunk-at c (k + m) at w a row)
-
-  -- the first w pixels of a row, then those up to n
-  module _ (row : List ℕ) {w n : ℕ} (p : w ≤ n) {middle : List ℕ} (e : middle ≡ changedRow depth rule w 0 row) where
-    pub same-row : length middle ≡ length row
-    same-row = rw e (order-length (changedAt depth rule 0) (length-changed depth rule 0) w 0 row)
-
-    pub then-rest : {next : List ℕ} → next ≡ inOrder (changedAt depth rule 0) w (n - w) middle → next ≡ changedRow depth rule n 0 row
-    then-rest f =
-        let z : 0 + w ≡ w = omega arith in
-        let all : w + (n - w) ≡ n = omega arith in
-        f ∙ rw e (rw (z, all) at (order-add (changedAt depth rule 0) w 0 (n - w) row))
-
-    -- by their bits from the first on, where w makes whole eights
-    pub then-few : {c at : ℕ} → w % 8 ≡ 0 → n - w ≡ c → at ≡ w * depth → {next : List ℕ} → next ≡ changedRow depth rule c at middle
-        → next ≡ changedRow depth rule n 0 row
-    then-few {c} {at} v k a f = then-rest (rw k (f ∙ chunk-at c w at v a middle))
+-- pixels that lie eight apart have one bit
+pub mark-round : (bits flip1 keep1 flip0 keep0 : ℕ) → Round (markRule bits flip1 keep1 flip0 keep0)
+mark-round bits flip1 keep1 flip0 keep0 = record {
+  comes-round = λ i m w. let z : (i + m) % 8 ≡ m % 8 = omega arith in rw z;
+}
 
 -- ---- mono patterns
+
+-- the pattern's column rises with the place, in either direction
+pub column-rises : (negative : Bool) (first i n x : ℕ) → x < n
+    → (patternIndex negative first (lowColumn negative i n) + x) % 8 ≡ patternIndex negative first (columnAt negative i n x)
+unfolding patternIndex
+column-rises true first i n x l =
+    let low = i + (n - 1) in
+    let here = i + (n - 1 - x) in
+    let e : first + 8 * low - low + x ≡ first + 8 * here - here + 8 * x = omega arith in
+    mod-add (first + 8 * low - low) x ∙ ap (λ (y : ℕ). y % 8) e ∙ whole-eight (first + 8 * here - here) x
+  where
+    mod-add : (a x : ℕ) → (a % 8 + x) % 8 ≡ (a + x) % 8
+    mod-add a x = omega arith
+
+    whole-eight : (a x : ℕ) → (a + 8 * x) % 8 ≡ a % 8
+    whole-eight a x = omega arith
+column-rises false first i n x l = omega arith
 
 module _ (b : Blt) {value : ℕ} (plain : Plain (b .code) (b .source) value) {p : MonoPattern} (mono : b .pattern ≡ Mono p) where
   mono-drawn : (i j : ℕ) (frame : List ℕ)
@@ -297,23 +274,6 @@ module _ (b : Blt) {value : ℕ} (plain : Plain (b .code) (b .source) value) {p 
       go true nothing = ap (storePixel (b .destination .depth) frame _) (v .2 _ (p .color1) _)
       go false true = refl
       go false false = ap (storePixel (b .destination .depth) frame _) (v .2 _ (p .color0) _)
-
-  -- the pattern's column rises with the place, in either direction
-  column-rises : (negative : Bool) (first i n x : ℕ) → x < n
-      → (patternIndex negative first (lowColumn negative i n) + x) % 8 ≡ patternIndex negative first (columnAt negative i n x)
-  unfolding patternIndex
-  column-rises true first i n x l =
-      let low = i + (n - 1) in
-      let here = i + (n - 1 - x) in
-      let e : first + 8 * low - low + x ≡ first + 8 * here - here + 8 * x = omega arith in
-      mod-add (first + 8 * low - low) x ∙ ap (λ (y : ℕ). y % 8) e ∙ whole-eight (first + 8 * here - here) x
-    where
-      mod-add : (a x : ℕ) → (a % 8 + x) % 8 ≡ (a + x) % 8
-      mod-add a x = omega arith
-
-      whole-eight : (a x : ℕ) → (a + 8 * x) % 8 ≡ a % 8
-      whole-eight a x = omega arith
-  column-rises false first i n x l = omega arith
 
   -- a row whose bits are the pattern row's from the lowest pixel's column on
   pub mono-changes : (i j n : ℕ) → Depth (b .destination .depth) → (bits : ℕ) {flip1 keep1 flip0 keep0 : ℕ}

@@ -232,15 +232,15 @@ pub band-rest : {b : Blt} {k n : ℕ} {first : List ℕ} → Band (length first)
     → Remain (drawBlt b) k n first m frame → Band (length frame) b (k + m) (n - m)
 band-rest a r = rw (r .same) (record { fit = a .fit; inside = omega (arith, a .inside, r .drawn); small = a .small })
 
--- in the middle: m of n pixels from pixel k are drawn, and column i of row j is next
-pub record ByRows (b : Blt) (k n : ℕ) (first : List ℕ) (i j m : ℕ) (frame : List ℕ) : Type 0 where
-  pub remain : Remain (drawBlt b) k n first m frame
+-- in the middle: m of n pixels from pixel k, drawn so, are drawn, and column i of row j is next
+pub record ByRows (draw : ℕ → List ℕ → List ℕ) (b : Blt) (k n : ℕ) (first : List ℕ) (i j m : ℕ) (frame : List ℕ) : Type 0 where
+  pub remain : Remain draw k n first m frame
   pub narrow : i < b .destination .columns .count
   pub column : m < n → i ≡ columnOf (b .destination) (k + m)
   pub row : m < n → j ≡ rowOf (b .destination) (k + m)
 
-pub rows-all : {size : ℕ} {b : Blt} → FitBlt size b → {k n : ℕ} (frame : List ℕ)
-    → ByRows b k n frame (columnOf (b .destination) k) (rowOf (b .destination) k) 0 frame
+pub rows-all : {draw : ℕ → List ℕ → List ℕ} {size : ℕ} {b : Blt} → FitBlt size b → {k n : ℕ} (frame : List ℕ)
+    → ByRows draw b k n frame (columnOf (b .destination) k) (rowOf (b .destination) k) 0 frame
 rows-all {b = b} fit {k} frame =
     let z : k + 0 ≡ k = omega arith in
     record {
@@ -257,8 +257,8 @@ pub record Part (width n i m c : ℕ) : Type 0 where
   pub left : c ≤ n - m
   pub whole : c < n - m → c ≡ width - i
 
-module _ {b : Blt} {k n : ℕ} {first : List ℕ} {i j m : ℕ} {frame : List ℕ} (r : ByRows b k n first i j m frame)
-    {c : ℕ} (p : Part (b .destination .columns .count) n i m c) where
+module _ {draw : ℕ → List ℕ → List ℕ} {b : Blt} {k n : ℕ} {first : List ℕ} {i j m : ℕ} {frame : List ℕ}
+    (r : ByRows draw b k n first i j m frame) {c : ℕ} (p : Part (b .destination .columns .count) n i m c) where
   more : m < n
   more = omega (arith, p .some, p .left)
 
@@ -274,15 +274,17 @@ module _ {b : Blt} {k n : ℕ} {first : List ℕ} {i j m : ℕ} {frame : List �
       })
 
   -- and after them comes the next row, or none
-  pub rows-next : {next : List ℕ} → next ≡ rowPixels b i j c frame → ByRows b k n first 0 (j + 1) (m + c) next
-  rows-next {next} e =
+  pub rows-after : ((k : ℕ) (frame : List ℕ) → length (draw k frame) ≡ length frame) → {next : List ℕ}
+      → (columnOf (b .destination) (k + m) + c ≤ b .destination .columns .count → i ≡ columnOf (b .destination) (k + m)
+      → j ≡ rowOf (b .destination) (k + m) → next ≡ inOrder draw (k + m) c frame)
+      → ByRows draw b k n first 0 (j + 1) (m + c) next
+  rows-after keeps {next} e =
       let w = b .destination .columns .count in
       let at = k + m in
-      let drawn : next ≡ bltPixels b at c frame =
-      e ∙ rw (r .column more, r .row more) (row-pixels b at c frame (omega (arith, r .column more, r .narrow, p .within))) in
+      let drawn = e (omega (arith, r .column more, r .narrow, p .within)) (r .column more) (r .row more) in
       let on : m + c < n → k + (m + c) ≡ at + (w - at % w) = λ t. omega (arith, p .whole (omega arith), r .column more) in
       record {
-        remain = remain-add (length-drawn b) (r .remain) c (omega (arith, p .left, more)) drawn;
+        remain = remain-add keeps (r .remain) c (omega (arith, p .left, more)) drawn;
         narrow = omega (arith, r .narrow);
         column = λ t. rw (on t) (sym (column-next w at (omega (arith, r .narrow))));
         row = λ t. rw (on t, r .row more) (sym (row-next w at (omega (arith, r .narrow))));
@@ -293,3 +295,10 @@ module _ {b : Blt} {k n : ℕ} {first : List ℕ} {i j m : ℕ} {frame : List �
   rows-on a =
       let ranged = a .fit .destination-fit .ranged in
       (omega (arith, rows-part a .row, ranged .high-most), omega (arith, more, a .inside, area-most ranged), omega (arith, p .within, ranged .wide-most))
+
+-- of a BLT's own pixels
+pub rows-next : {b : Blt} {k n : ℕ} {first : List ℕ} {i j m : ℕ} {frame : List ℕ} → ByRows (drawBlt b) b k n first i j m frame
+    → {c : ℕ} → Part (b .destination .columns .count) n i m c → {next : List ℕ} → next ≡ rowPixels b i j c frame
+    → ByRows (drawBlt b) b k n first 0 (j + 1) (m + c) next
+rows-next {b = b} {k} {m = m} {frame} r {c} p e =
+    rows-after r p (length-drawn b) (λ l x y. e ∙ rw (x, y) (row-pixels b (k + m) c frame l))

@@ -7,7 +7,7 @@ use native.Mathlib.Omega.{arith}
 use native.Mathlib.Nat.{zero-add, suc-add}
 use borrow.Author.Tests.{eqb-true, eq-eqb}
 use Rattle.model.specs.Choice.{_=?_, not-both, both}
-use Rattle.model.specs.Unit.{Machine, Done, commandRefusal, stopped, loadedCore, drawnCore, drawPixel, unitAt, unit, drawing, ready, done, possible, units}
+use Rattle.model.specs.Unit.{Machine, Done, commandRefusal, stopped, loadedCore, tableAfter, drawnCore, drawPixel, unitAt, unit, drawing, ready, done, possible, units}
 use Rattle.model.specs.Steps.{machine, Step, loads, refuses, draws, step-of}
 use Rattle.model.specs.declared.Core.{Core}
 use Rattle.model.specs.declared.Place.{Place}
@@ -17,25 +17,27 @@ use Rattle.model.specs.declared.Primitive.{Primitive}
 -- ---- what a unit is, by what the engine does
 
 pub unit-draws : (ring : List ℕ) (m : Machine) (primitive : Primitive) (k : ℕ) → m .core .place ≡ Drawing primitive k
-    → unit ring m ≡ machine (drawnCore (m .core) primitive (k + 1)) (drawPixel primitive (m .core .registers) k (m .frame))
+    → unit ring m
+    ≡ machine (drawnCore (m .core) primitive (k + 1)) (m .table) (drawPixel primitive (m .core .registers) (m .table) k (m .frame))
 unfolding unit unitAt
 unit-draws ring m primitive k p = ap (λ (q : Place). unitAt ring q m) p
 
 -- where nothing is being drawn
 module _ (ring : List ℕ) (m : Machine) (idle : drawing (m .core .place) ≡ false) where
-  pub unit-loads : commandRefusal ring (m .core) ≡ 0 → unit ring m ≡ machine (loadedCore ring (m .core)) (m .frame)
+  pub unit-loads : commandRefusal ring (m .core) ≡ 0
+      → unit ring m ≡ machine (loadedCore ring (m .core)) (tableAfter ring (m .core) (m .table)) (m .frame)
   unit-loads e = go (step-of ring m)
     where
-      go : Step ring m → unit ring m ≡ machine (loadedCore ring (m .core)) (m .frame)
+      go : Step ring m → unit ring m ≡ machine (loadedCore ring (m .core)) (tableAfter ring (m .core) (m .table)) (m .frame)
       go (loads p f u) = u
       go (refuses p n u) = absurd (n e)
       go (draws primitive k p u) = absurd (not-both _ (ap drawing p) idle)
 
   pub unit-refuses : (commandRefusal ring (m .core) ≡ 0 → ⊥)
-      → unit ring m ≡ machine (stopped (m .core) (commandRefusal ring (m .core))) (m .frame)
+      → unit ring m ≡ machine (stopped (m .core) (commandRefusal ring (m .core))) (m .table) (m .frame)
   unit-refuses n = go (step-of ring m)
     where
-      go : Step ring m → unit ring m ≡ machine (stopped (m .core) (commandRefusal ring (m .core))) (m .frame)
+      go : Step ring m → unit ring m ≡ machine (stopped (m .core) (commandRefusal ring (m .core))) (m .table) (m .frame)
       go (loads p e u) = absurd (n e)
       go (refuses p f u) = u
       go (draws primitive k p u) = absurd (not-both _ (ap drawing p) idle)

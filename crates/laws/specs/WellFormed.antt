@@ -8,7 +8,7 @@ use borrow.Author.Tests.{eqb-true, eq-eqb, not-false}
 use Rattle.model.specs.Choice.{_=?_, neither}
 use Rattle.model.specs.Refusals.{positive, exactly, none-first}
 use Rattle.model.specs.Operands.{drawOperands}
-use Rattle.model.specs.BltPixel.{drawAt, drawBlt}
+use Rattle.model.specs.BltPixel.{drawAt, drawBlt, drawTiled}
 use Rattle.model.specs.VectorPixel.{drawVector}
 use Rattle.model.specs.Unit.{Machine, stopped, loadedCore, drawnCore, drawPixel, unit, possible, units}
 use Rattle.model.specs.Steps.{Step, loads, refuses, draws, step-of}
@@ -54,11 +54,11 @@ unfolding drawOperands
 length-operands depth code at Nothing frame = refl
 length-operands depth code at (Values p s) frame = length-store depth frame at _
 
-pub length-pixel : (primitive : Primitive) (registers : List ℕ) (k : ℕ) (frame : List ℕ)
-    → length (drawPixel primitive registers k frame) ≡ length frame
-unfolding drawPixel drawBlt drawAt drawVector
-length-pixel Blt registers k frame = length-operands _ _ _ _ frame
-length-pixel Vector registers k frame = length-operands _ _ _ _ frame
+pub length-pixel : (primitive : Primitive) (registers table : List ℕ) (k : ℕ) (frame : List ℕ)
+    → length (drawPixel primitive registers table k frame) ≡ length frame
+unfolding drawPixel drawTiled drawBlt drawAt drawVector
+length-pixel Blt registers table k frame = length-operands _ _ _ _ frame
+length-pixel Vector registers table k frame = length-operands _ _ _ _ frame
 
 -- the lengths in the state, and frame memory's own
 pub record Kept (m n : Machine) : Type 0 where
@@ -75,7 +75,7 @@ unit-keeps ring m = go (step-of ring m)
     go (refuses p n u) = rw u (record { ringlength-kept = refl; framelength-kept = refl; frame-kept = refl })
     go (draws primitive k p u) =
         rw u
-        (record { ringlength-kept = refl; framelength-kept = refl; frame-kept = length-pixel primitive (m .core .registers) k (m .frame) })
+        (record { ringlength-kept = refl; framelength-kept = refl; frame-kept = length-pixel primitive (m .core .registers) (m .table) k (m .frame) })
 
 module _ (ring : List ℕ) (w : ℕ) where
   pub wellformed-unit : (m : Machine) → WellFormed ring w m → possible ring (m .core) w ≡ true → WellFormed ring w (unit ring m)

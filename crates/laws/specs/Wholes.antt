@@ -8,6 +8,7 @@ use Rattle.model.specs.Rectangle.{ahead, behind, columnOf, rowOf}
 use Rattle.model.specs.declared.Blt.{Blt}
 use Rattle.model.specs.declared.Rectangle.{Rectangle}
 use Rattle.model.specs.declared.Source.the-variants.{Frame}
+use Rattle.model.specs.BltPixel.{drawBlt}
 use Rattle.laws.specs.Numbers.{row-lt}
 use Rattle.laws.specs.Extremes.{Follows}
 use Rattle.laws.specs.Rows.{Row, rowPixels, Band, ByRows, Part, rows-all, rows-part, rows-next}
@@ -28,8 +29,8 @@ Freely b left from to = wide b ≤ left → Clear (b .destination .columns .nega
 
 -- from a pixel that begins a row
 pub wholes-all : {size : ℕ} {b : Blt} {k n : ℕ} → Band size b k n → columnOf (b .destination) k ≡ 0 → (frame : List ℕ)
-    → ByRows b k n frame 0 (rowOf (b .destination) k) 0 frame
-wholes-all {b = b} {k} {n} a e frame = rw e at (rows-all (a .fit) {k = k} {n = n} frame)
+    → ByRows (drawBlt b) b k n frame 0 (rowOf (b .destination) k) 0 frame
+wholes-all {b = b} {k} {n} a e frame = rw e at (rows-all {draw = drawBlt b} (a .fit) {k = k} {n = n} frame)
 
 pub wholes-some : {size : ℕ} {b : Blt} {k n : ℕ} → Band size b k n → 0 < wide b
 wholes-some a = a .fit .destination-fit .ranged .wide
@@ -48,7 +49,7 @@ wholes-first {b = b} {k} a l =
 whole-part : {size : ℕ} {b : Blt} {k n : ℕ} → Band size b k n → (m : ℕ) → wide b ≤ n - m → Part (wide b) n 0 m (wide b)
 whole-part a m l = record { some = wholes-some a; within = omega arith; left = l; whole = λ p. omega arith }
 
-module _ {b : Blt} {k n : ℕ} {first : List ℕ} {j m : ℕ} {frame : List ℕ} (r : ByRows b k n first 0 j m frame)
+module _ {b : Blt} {k n : ℕ} {first : List ℕ} {j m : ℕ} {frame : List ℕ} (r : ByRows (drawBlt b) b k n first 0 j m frame)
     (a : Band (length first) b k n) (l : wide b ≤ n - m) where
   -- the row that is next
   pub wholes-row : Row (length frame) b 0 j (wide b)
@@ -56,7 +57,7 @@ module _ {b : Blt} {k n : ℕ} {first : List ℕ} {j m : ℕ} {frame : List ℕ}
 
   module _ {next : List ℕ} (e : next ≡ rowPixels b 0 j (wide b) frame) where
     -- after it
-    pub wholes-next : ByRows b k n first 0 (j + 1) (m + wide b) next
+    pub wholes-next : ByRows (drawBlt b) b k n first 0 (j + 1) (m + wide b) next
     wholes-next = rows-next r (whole-part a m l) e
 
     module _ (more : wide b ≤ n - (m + wide b)) where
