@@ -1,6 +1,6 @@
 -- Units along one run of words: as long as the write pointer stays on the run, each unit is the unit of the whole run, and
 -- could be done with the final pointer in.
-use Prim.Native.Nat.{ℕ, suc, _+_, _-_, _%_, _≤_, _<_}
+use Prim.Native.Nat.{ℕ, zero, suc, _+_, _-_, _%_, _≤_, _<_}
 use mathlib.Core.Path.{_≡_, refl, sym, ap, subst, _∙_}
 use mathlib.Core.Bool.{Bool, true, false}
 use mathlib.Core.List.{List, [], _∷_}
@@ -11,15 +11,18 @@ use borrow.Author.Tests.{ltb-false, eqb-true}
 use Rattle.model.specs.Choice.{_<?_, _=?_, if_then_else_, neither}
 use Rattle.model.specs.Refusals.{Rule, first}
 use Rattle.model.specs.Ring.{Agree, distance, waiting, wordAt, distance-lt, distance-leads, empty}
-use Rattle.model.specs.Command.{kindOf, wordRegisters, drawnBy, badReturn, wholeWords, loadWords, loaded, readAfter}
-use Rattle.model.specs.Unit.{Machine, Done, headerAt, loadedAt, lengthAt, returnsAt, headerRefusal, drawnRules, commandRefusal, needed, ready, stopped, loadedCore, drawnCore, unit, done, possible, units}
+use Rattle.model.specs.Lookup.{dataCount, nextIndex, dataStored}
+use Rattle.model.specs.Command.{kindOf, badHeader, wordRegisters, commandLength, drawnBy, badReturn, badTable, judgedWords, wholeWords, loadWords, enabled, advanced, loaded, filled, loadedTable, readAfter}
+use Rattle.model.specs.Unit.{Machine, Done, headerAt, loadedAt, countedAt, lengthAt, returnsAt, headerRefusal, drawnRules, commandRefusal, needed, ready, stopped, loadedCore, tableAfter, drawnCore, unit, done, possible, units}
 use Rattle.model.specs.Steps.{machine, Step, loads, refuses, draws, step-of, possible-later}
 use Rattle.model.specs.declared.Core.{Core}
+use Rattle.model.specs.declared.Kind.{Kind}
+use Rattle.model.specs.declared.Kind.the-variants.{Blt, Vector, Table}
 use Rattle.laws.specs.Modular.{distance-sum, distance-next}
 use Rattle.laws.specs.Units.{unit-loads, unit-refuses, unit-draws, drawing-possible, idle-possible, possible-running, possible-ready, units-zero, units-step, units-each}
 use Rattle.laws.specs.Fit.{Fit, command-first, accepted-header, accepted-return, fit-unit}
 use Rattle.laws.specs.WellFormed.{unit-keeps}
-use Rattle.demands.specs.Waits.{good-header, Needs, its-header, all-words, needs-of, needs-some, whole-waits, ready-needs, ready-whole}
+use Rattle.demands.specs.Waits.{good-header, Needs, its-header, all-words, needs-of, needs-judged, needs-some, whole-waits, ready-needs, ready-whole}
 
 -- where an engine stands on the run of words from o to the final position f, with the write pointer at w: a state that row 3 does
 -- not refuse
@@ -147,6 +150,26 @@ words-same ring all read header (r ∷ rest) i registers h =
     let e : i + 1 + j ≡ i + suc j = omega arith in
     rw e (h (suc j) (omega arith))))
 
+-- a table load's data
+data-same : (ring all : List ℕ) (read i n index : ℕ) (table : List ℕ)
+    → ((j : ℕ) → j < n → wordAt ring read (i + j) ≡ wordAt all read (i + j))
+    → dataStored ring read i n index table ≡ dataStored all read i n index table
+unfolding dataStored
+data-same ring all read i zero index table h = refl
+data-same ring all read i (suc n) index table h =
+    let first : wordAt ring read i ≡ wordAt all read i = rw add-zero at (h 0 (omega arith)) in
+    rw first
+    (data-same ring all read (i + 1) n (nextIndex index) _
+    (λ j l.
+    let e : i + 1 + j ≡ i + suc j = omega arith in
+    rw e (h (suc j) (omega arith))))
+
+-- a command has a word for each of its registers
+registers-length : (kind : Kind) (counted : ℕ) → length (wordRegisters kind) < commandLength kind counted
+registers-length Blt counted = omega arith
+registers-length Vector counted = omega arith
+registers-length Table counted = omega arith
+
 module _ (n o f w : ℕ) (ring all : List ℕ) (ring-is : length ring ≡ n) (all-is : length all ≡ n) (agree : Agree ring all n o w) where
   module _ (c : Core) (on : OnRun n o f w c) (now : ready ring c w ≡ true) where
     waits : needed ring c ≤ waiting n (c .read) w
@@ -165,41 +188,96 @@ module _ (n o f w : ℕ) (ring all : List ℕ) (ring-is : length ring ≡ n) (al
     unfolding waiting
     header-same = agree (c .read) (on-read on) (omega (arith, waits, needs-some ring c, waits-from on))
 
-    abbrev rulesAt : List ℕ → List Rule
-    rulesAt words = drawnRules (drawnBy (headerAt words c)) (loadedAt words c) (c .framelength)
+    -- what hangs on the kind and, of a table load, on its count word: where 21 does not apply three words of a table load wait
+    count-same : {A : Type 0} (of : Kind → ℕ → A) → ((x y : ℕ) → of Blt x ≡ of Blt y) → ((x y : ℕ) → of Vector x ≡ of Vector y)
+        → badHeader (headerAt ring c) ≡ false
+        → of (kindOf (headerAt ring c)) (countedAt ring c) ≡ of (kindOf (headerAt ring c)) (countedAt all c)
+    count-same of blt vector b = go (kindOf (headerAt ring c)) refl
+      where
+        go : (k : Kind) → kindOf (headerAt ring c) ≡ k → of k (countedAt ring c) ≡ of k (countedAt all c)
+        go Blt e = blt _ _
+        go Vector e = vector _ _
+        go Table e = ap (of Table) (word-same 2 (omega (arith, waits, needs-judged ring c b, ap judgedWords e)))
 
+    length-same : badHeader (headerAt ring c) ≡ false → lengthAt ring c ≡ lengthAt all c
+    length-same b = count-same commandLength (λ x y. refl) (λ x y. refl) b ∙ rw header-same
+
+    -- where 21 applies nothing hangs on the count word
     number-same : headerRefusal ring c ≡ headerRefusal all c
-    unfolding headerRefusal
-    number-same = rw header-same
+    unfolding headerRefusal first
+    number-same = go (badHeader (headerAt ring c)) refl
+      where
+        go : (b : Bool) → badHeader (headerAt ring c) ≡ b → headerRefusal ring c ≡ headerRefusal all c
+        go true b = rw (header-same, rw header-same at b)
+        go false b = rw (length-same b, count-same badTable (λ x y. refl) (λ x y. refl) b, header-same)
+
+    -- where the header refuses nothing 21 does not apply
+    no-21 : headerRefusal ring c ≡ 0 → badHeader (headerAt ring c) ≡ false
+    no-21 z = good-header ring c .0 z .0
+
+    needed-same : needed ring c ≡ needed all c
+    unfolding needed
+    needed-same = go (headerRefusal ring c =? 0) refl
+      where
+        go : (b : Bool) → headerRefusal ring c =? 0 ≡ b → needed ring c ≡ needed all c
+        go true b = rw (b, ← number-same, b, length-same (no-21 (eqb-true _ _ b)), header-same)
+        go false b = rw (b, ← number-same, b, header-same)
 
     ready-same : ready all c w ≡ true
-    unfolding ready needed headerRefusal
-    ready-same = rw header-same at now
+    unfolding ready
+    ready-same = rw needed-same at now
 
-    -- where the header refuses nothing, all its words wait
-    loaded-same : headerRefusal ring c ≡ 0 → loadedAt ring c ≡ loadedAt all c
-    unfolding loaded
-    loaded-same z = go (needs-of ring c)
-      where
-        go : Needs ring c → loadedAt ring c ≡ loadedAt all c
-        go (its-header b e) = absurd (b (good-header ring c .0 z))
-        go (all-words g e l) =
-            rw header-same
-            (words-same ring all (c .read) (headerAt all c) (wordRegisters (kindOf (headerAt all c))) 0 (c .registers)
-            (λ j h. word-same (0 + j + 1) (let i : lengthAt all c ≤ needed ring c = rw header-same at l in omega (arith, waits))))
+    module _ (good : headerRefusal ring c ≡ 0) where
+      -- all its words wait
+      own-same : (k : ℕ) → k < lengthAt ring c → wordAt ring (c .read) k ≡ wordAt all (c .read) k
+      own-same k h = go (needs-of ring c)
+        where
+          go : Needs ring c → wordAt ring (c .read) k ≡ wordAt all (c .read) k
+          go (its-header b e) = absurd (b (good-header ring c .0 good))
+          go (all-words g e l) = word-same k (omega (arith, waits))
+
+      enabled-same : enabled ring (c .read) (headerAt ring c) (c .registers) ≡ enabled all (c .read) (headerAt ring c) (c .registers)
+      enabled-same =
+          words-same ring all (c .read) (headerAt ring c) (wordRegisters (kindOf (headerAt ring c))) 0 (c .registers)
+          (λ j h. own-same (0 + j + 1) (omega (arith, registers-length (kindOf (headerAt ring c)) (countedAt ring c))))
+
+      loaded-same : loadedAt ring c ≡ loadedAt all c
+      unfolding loaded
+      loaded-same =
+          let registers = enabled all (c .read) (headerAt ring c) (c .registers) in
+          rw enabled-same
+          (count-same (λ kind counted. advanced kind counted registers) (λ x y. refl) (λ x y. refl) (no-21 good) ∙ rw header-same)
+
+      table-same : (table : List ℕ) → tableAfter ring c table ≡ tableAfter all c table
+      unfolding tableAfter loadedTable
+      table-same table = rw enabled-same (go (kindOf (headerAt ring c)) refl _ ∙ rw header-same)
+        where
+          go : (k : Kind) → kindOf (headerAt ring c) ≡ k → (index : ℕ)
+              → filled k ring (c .read) index table ≡ filled k all (c .read) index table
+          go Blt e index = refl
+          go Vector e index = refl
+          go Table e index =
+              let counted = countedAt ring c in
+              let l : lengthAt ring c ≡ 3 + dataCount counted = ap (λ (k : Kind). commandLength k counted) e in
+              data-same ring all (c .read) 3 (dataCount counted) index table (λ j h. own-same (3 + j) (omega arith))
+              ∙ ap (λ (x : ℕ). dataStored all (c .read) 3 (dataCount x) index table) (own-same 2 (omega arith))
+
+    abbrev othersAt : List ℕ → List Rule
+    othersAt words = drawnRules (drawnBy (headerAt words c)) (loadedAt words c) (c .framelength)
 
     refusal-same : commandRefusal ring c ≡ commandRefusal all c
     refusal-same = command-first ring c ∙ go (headerRefusal all c =? 0) refl number-same ∙ sym (command-first all c)
       where
         go : (b : Bool) → headerRefusal all c =? 0 ≡ b → headerRefusal ring c ≡ headerRefusal all c
-            → (if headerRefusal ring c =? 0 then first (rulesAt ring) else headerRefusal ring c)
-            ≡ (if headerRefusal all c =? 0 then first (rulesAt all) else headerRefusal all c)
+            → (if headerRefusal ring c =? 0 then first (othersAt ring) else headerRefusal ring c)
+            ≡ (if headerRefusal all c =? 0 then first (othersAt all) else headerRefusal all c)
         go false e p = rw (p, e)
         go true e p = rw (p, e, loaded-same (p ∙ eqb-true _ _ e), header-same)
 
     core-same : commandRefusal ring c ≡ 0 → loadedCore ring c ≡ loadedCore all c
     unfolding loadedCore
-    core-same z = rw (loaded-same (accepted-header ring c z), header-same)
+    core-same z =
+        let good = accepted-header ring c z in rw (loaded-same good, length-same (no-21 good), header-same)
 
   pub unit-same : (m : Machine) → OnRun n o f w (m .core) → possible ring (m .core) w ≡ true
       → (possible all (m .core) w ≡ true) × (unit ring m ≡ unit all m)
@@ -215,13 +293,15 @@ module _ (n o f w : ℕ) (ring all : List ℕ) (ring-is : length ring ≡ n) (al
       go (loads p h u) =
           let r = possible-ready ring c w p e in (
             idle-possible all c w z p ∙ ready-same c on r,
-            u ∙ ap (λ (d : Core). machine d (m .frame)) (core-same c on r h) ∙ sym (unit-loads all m p (sym (refusal-same c on r) ∙ h)),
+            u ∙ ap (λ (d : Core). machine d (tableAfter ring c (m .table)) (m .frame)) (core-same c on r h)
+                ∙ ap (λ (t : List ℕ). machine (loadedCore all c) t (m .frame)) (table-same c on r (accepted-header ring c h) (m .table))
+                ∙ sym (unit-loads all m p (sym (refusal-same c on r) ∙ h)),
           )
       go (refuses p h u) =
           let r = possible-ready ring c w p e in
           let same = refusal-same c on r in (
             idle-possible all c w z p ∙ ready-same c on r,
-            u ∙ ap (λ (k : ℕ). machine (stopped c k) (m .frame)) same ∙ sym (unit-refuses all m p (λ q. h (same ∙ q))),
+            u ∙ ap (λ (k : ℕ). machine (stopped c k) (m .table) (m .frame)) same ∙ sym (unit-refuses all m p (λ q. h (same ∙ q))),
           )
       go (draws primitive k p u) = (drawing-possible all c w primitive k z p, u ∙ sym (unit-draws all m primitive k p))
 

@@ -19,7 +19,11 @@ use Rattle.demands.specs.Table.{rulesOf, call-first, call-rises}
 
 -- a configuration from the end of some units
 abbrev pub configuration : ℕ → Done → Configuration
-configuration w d = record { state = record { core = d .machine .core; write = w }; frame = d .machine .frame; sum = d .used }
+configuration w d = record {
+  state = record { core = d .machine .core; table = d .machine .table; write = w };
+  frame = d .machine .frame;
+  sum = d .used;
+}
 
 -- the machine of a configuration
 abbrev pub machineIn : Configuration → Machine

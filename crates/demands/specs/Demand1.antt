@@ -2,18 +2,18 @@
 -- nothing else; "waiting" and the reported room are always true; what one call left the next one takes.
 -- (That each call ends and touches nothing out of range is what the check of the code itself proves. The table, row by row, is
 -- in `Table`, and what "waiting" and "whole" mean in `Waits`.)
-use Prim.Native.Nat.{ℕ, _-_, _<_}
+use Prim.Native.Nat.{ℕ, _-_, _≤_, _<_}
 use mathlib.Core.Path.{_≡_, refl, sym, ap, subst, _∙_}
-use mathlib.Core.Bool.{Bool, true, false}
+use mathlib.Core.Bool.{Bool, true, false, _||_}
 use mathlib.Core.Logic.{_⊎_, inl, inr, ⊎-elim}
-use mathlib.Core.List.{List}
+use mathlib.Core.List.{List, _∷_}
 use native.Mathlib.Omega.{arith}
 use lib.ListN.{length}
 use borrow.Author.Tests.{eqb-true, eqb-false, eq-eqb, ne-eqb}
-use Rattle.model.specs.Choice.{_=?_, true-or-false, not-both}
-use Rattle.model.specs.Refusals.{Rule, first, NoRule, Each, positive, first-each, none-first}
+use Rattle.model.specs.Choice.{_=?_, if_then_else_, true-or-false, not-both, if-both}
+use Rattle.model.specs.Refusals.{Rule, _when_, first, NoRule, Each, positive, first-later, first-each, none-first}
 use Rattle.model.specs.Ring.{waiting, room}
-use Rattle.model.specs.Command.{drawnBy}
+use Rattle.model.specs.Command.{kindOf, badHeader, drawnBy, judgedWords}
 use Rattle.model.specs.Unit.{Machine, done, headerAt, loadedAt, headerRefusal, drawnRules, commandRefusal, ready, stopped, loadedCore, drawnCore, unit, drawing, possible, units}
 use Rattle.model.specs.Steps.{machine, stopped-keeps}
 use Rattle.model.specs.Calls.{unfit, setupRules, runRules, setup, publish, restart, askRoom, runWord, runRefusal, runUnits, ranAnswer, run, freshState, roomOf, roomAfter, stateAfter}
@@ -24,6 +24,7 @@ use Rattle.model.specs.declared.State.{State}
 use Rattle.model.specs.declared.Answer.{Answer}
 use Rattle.model.specs.declared.Drawn.{Drawn}
 use Rattle.model.specs.declared.Drawn.the-variants.{Nothing, Draws}
+use Rattle.model.specs.declared.Kind.{Kind}
 use Rattle.model.specs.declared.Primitive.{Primitive}
 use Rattle.model.specs.declared.Place.the-variants.{Drawing}
 use Rattle.model.specs.declared.RunWord.{RunWord}
@@ -32,7 +33,7 @@ use Rattle.model.specs.declared.Reply.the-variants.{Refused, Ran}
 use Rattle.laws.specs.Fit.{Fit, command-first, fit-parts, parts-fit, fit-later, fit-restarted, fit-fresh}
 use Rattle.laws.specs.WellFormed.{wellformed-units}
 use Rattle.laws.specs.Units.{unit-loads, unit-refuses, unit-draws, idle-possible, possible-ready, units-stop}
-use Rattle.demands.specs.Waits.{Whole, GoodHeader, NoCommand, no-word, not-whole, Waits, waits-word, good-header, ready-whole, not-ready, none-ready}
+use Rattle.demands.specs.Waits.{Whole, GoodHeader, Unjudged, NoCommand, no-word, not-whole, not-judged, Waits, judged-some, judged-within, waits-word, good-header, ready-whole, not-ready, none-ready}
 use Rattle.demands.specs.Table.{rulesOf, Table, call-first, setup-first, table}
 use Rattle.demands.specs.Courses.{Did, did, accepted-rules, refused-keeps}
 
@@ -60,12 +61,12 @@ pub record AcceptedReports : Type 0 where
       → Reported (answerOf ring call y)
 
 -- "A bad command stops the engine with its number, unexecuted, registers and frame memory unchanged": nothing but the stop
--- number moves, and it is not retired. Ruled out: an engine that loads registers from a command that it then refuses; one
--- that skips a bad command.
+-- number moves, and it is not retired. The lookup table stays too: W4 has "demands 1 and 2 count it with the registers". Ruled out:
+-- an engine that loads registers, or words of that table, from a command that it then refuses; one that skips a bad command.
 abbrev pub RefusedCommand : Type 0
 RefusedCommand =
     (ring : List ℕ) (m : Machine) → drawing (m .core .place) ≡ false → (commandRefusal ring (m .core) ≡ 0 → ⊥)
-    → unit ring m ≡ machine (stopped (m .core) (commandRefusal ring (m .core))) (m .frame)
+    → unit ring m ≡ machine (stopped (m .core) (commandRefusal ring (m .core))) (m .table) (m .frame)
 
 -- Nothing else moves it: an accepted command leaves the stop number alone, and so does a pixel. Ruled out: an engine that
 -- stops with a number after a command that it drew; one that loads a command and clears a stop number.
@@ -77,22 +78,33 @@ pub record StopAlone : Type 0 where
       → StopStays ring m
   pub pixel : (ring : List ℕ) (m : Machine) (primitive : Primitive) (k : ℕ) → m .core .place ≡ Drawing primitive k → StopStays ring m
 
--- 21 and 22, the numbers that the header alone gives
-abbrev pub OfHeader : ℕ → Type 0
-OfHeader number = (number ≡ 21) ⊎ (number ≡ 22)
+-- the numbers that the header gives, of a table load with its count word
+abbrev pub ofHeader : ℕ → Bool
+ofHeader number = number =? 21 || number =? 29 || number =? 22
 
--- "21 and 22 are judged as soon as the header waits, the others when the command is whole", of an engine that draws nothing
+-- so many words must wait before such a number is judged: one for 21, and for 22 of a BLT or a vector; three for 29 and for 22 of a
+-- table load
+abbrev pub judgedOn : ℕ → Kind → ℕ
+judgedOn number kind = if number =? 21 then 1 else judgedWords kind
+
+-- "21 and 22 are judged as soon as the header waits, the others when the command is whole", of an engine that draws nothing; but
+-- W4 has 29 "judged as soon as three words wait and before 22, which for this kind waits for them too"
 pub record JudgedWhen : Type 0 where
-  -- where 21 or 22 applies one word that waits is enough, whatever else waits: the next unit stops with it. Ruled out: an
-  -- engine that waits for the rest of a command that has no length; one that waits for the ring's end with a W at word 0.
+  -- where 21, 29 or 22 applies so many words that wait are enough, whatever else waits: the next unit stops with it. Ruled out:
+  -- an engine that waits for the rest of a command that has no length; one that waits for the ring's end with a W at word 0; one
+  -- that judges 29 only when the command is whole, and with a large count never; one that gives 22 where 29 applies too.
   pub header-waits : (ring : List ℕ) (m : Machine) (write : ℕ) → m .core .stop ≡ 0 → drawing (m .core .place) ≡ false
-      → 0 < waiting (m .core .ringlength) (m .core .read) write
-      → OfHeader (commandRefusal ring (m .core))
+      → judgedOn (commandRefusal ring (m .core)) (kindOf (headerAt ring (m .core))) ≤ waiting (m .core .ringlength) (m .core .read) write
+      → ofHeader (commandRefusal ring (m .core)) ≡ true
       → (possible ring (m .core) write ≡ true) × (unit ring m .core .stop ≡ commandRefusal ring (m .core))
+  -- while fewer wait, and 21 does not apply, no budget does a unit, and nothing changes. Ruled out: an engine that judges 22 at a
+  -- table load's header; one that judges 29 by a count word that is not published.
+  pub few-wait : (ring : List ℕ) (m : Machine) (write budget used : ℕ) → drawing (m .core .place) ≡ false
+      → Unjudged ring (m .core) write → units ring write budget used m ≡ done m used
   -- a command that a unit loads, or refuses by another number, is whole. Ruled out: an engine that judges the registers by words
   -- that are not published; one that with W returns to word 0 before the words up to the ring's end are in.
   pub others-whole : (ring : List ℕ) (c : Core) (write : ℕ) → drawing (c .place) ≡ false → possible ring c write ≡ true
-      → (OfHeader (commandRefusal ring c) → ⊥) → Whole ring c write
+      → ofHeader (commandRefusal ring c) ≡ false → Whole ring c write
   -- and a whole one is loaded or refused by the next unit. Ruled out: an engine that answers waiting always.
   pub whole-judged : (ring : List ℕ) (c : Core) (write : ℕ) → c .stop ≡ 0 → drawing (c .place) ≡ false → Whole ring c write
       → possible ring c write ≡ true
@@ -101,8 +113,8 @@ pub record JudgedWhen : Type 0 where
   pub part-waits : (ring : List ℕ) (m : Machine) (write budget used : ℕ) → drawing (m .core .place) ≡ false
       → GoodHeader ring (m .core) → (Whole ring (m .core) write → ⊥) → units ring write budget used m ≡ done m used
 
--- "'Waiting' is said only when nothing is being drawn and no whole command waits", and no header waits that 21 or 22 refuses:
--- `Waits` has it word for word. An accepted run that leaves the engine so says it. Ruled out: an engine that answers waiting
+-- "'Waiting' is said only when nothing is being drawn and no whole command waits", and none that 21, 29 or 22 refuses: `Waits`
+-- has it word for word. An accepted run that leaves the engine so says it. Ruled out: an engine that answers waiting
 -- always; one that waits on a bad header; one that answers spent for ever where nothing is left to do.
 pub record WaitingTrue : Type 0 where
   pub only-when : (ring : List ℕ) (s : State) (frame : List ℕ) (budget units room : ℕ)
@@ -211,57 +223,68 @@ waiting-true = record {
 
 -- ---- when a command is judged
 
+-- what holds of 0 and of every number but the first holds of what is given where the first rule does not apply
+later-each : (P : ℕ → Type 0) (rule : Rule) (rules : List Rule) → rule .applies ≡ false → P 0 → Each P rules → P (first (rule ∷ rules))
+later-each P rule rules e z h = subst P (first-later rule rules e refl) (first-each P rules z h)
+
 module _ (ring : List ℕ) (c : Core) where
   abbrev others : Drawn → List Rule
   others d = drawnRules d (loadedAt ring c) (c .framelength)
 
-  -- what they give is neither 21 nor 22
-  other-number : (d : Drawn) → (first (others d) ≡ 0) ⊎ (22 < first (others d))
-  other-number d = first-each (λ n. (n ≡ 0) ⊎ (22 < n)) (others d) (inl refl) (each d)
-    where
-      each : (d : Drawn) → Each (λ n. (n ≡ 0) ⊎ (22 < n)) (others d)
-      each Nothing = tt
-      each (Draws primitive) =
-          (inr (omega arith), (inr (omega arith), (inr (omega arith), (inr (omega arith), (inr (omega arith), (inr (omega arith), tt))))))
+  others-each : (P : ℕ → Type 0) → P 23 → P 24 → P 25 → P 26 → P 27 → P 28 → (d : Drawn) → Each P (others d)
+  others-each P p q r s t u Nothing = tt
+  others-each P p q r s t u (Draws primitive) = (p, (q, (r, (s, (t, (u, tt))))))
 
-  of-header : OfHeader (commandRefusal ring c) → GoodHeader ring c → ⊥
+  -- what they give is none of the header's
+  of-header : ofHeader (commandRefusal ring c) ≡ true → GoodHeader ring c → ⊥
   of-header h g =
-      let n : OfHeader (first (others (drawnBy (headerAt ring c)))) = rw (command-first ring c, eq-eqb _ _ (good-header ring c .1 g)) at h in
-      ⊎-elim
-      (λ z. ⊎-elim (λ p. omega arith) (λ p. omega arith) n)
-      (λ l. ⊎-elim (λ p. omega arith) (λ p. omega arith) n)
-      (other-number (drawnBy (headerAt ring c)))
+      let d = drawnBy (headerAt ring c) in
+      let n : ofHeader (first (others d)) ≡ true = rw (command-first ring c, eq-eqb _ _ (good-header ring c .1 g)) at h in
+      let Other : ℕ → Type 0 = λ n. ofHeader n ≡ false in
+      not-both _ n (first-each Other (others d) refl (others-each Other refl refl refl refl refl refl d))
 
-  header-good : (OfHeader (commandRefusal ring c) → ⊥) → GoodHeader ring c
+  -- 21 is given only where it applies
+  only-21 : badHeader (headerAt ring c) ≡ false → commandRefusal ring c =? 21 ≡ false
+  unfolding commandRefusal
+  only-21 b =
+      let Other : ℕ → Type 0 = λ n. n =? 21 ≡ false in
+      later-each Other (21 when badHeader (headerAt ring c)) _ b refl
+      (refl, (refl, others-each Other refl refl refl refl refl refl (drawnBy (headerAt ring c))))
+
+  header-good : ofHeader (commandRefusal ring c) ≡ false → GoodHeader ring c
   unfolding headerRefusal
   header-good n = go (headerRefusal ring c =? 0) refl
     where
-      number : (headerRefusal ring c ≡ 0) ⊎ OfHeader (headerRefusal ring c)
-      number = first-each (λ n. (n ≡ 0) ⊎ OfHeader n) _ (inl refl) (inr (inl refl), (inr (inr refl), tt))
+      number : (headerRefusal ring c ≡ 0) ⊎ (ofHeader (headerRefusal ring c) ≡ true)
+      number = first-each (λ n. (n ≡ 0) ⊎ (ofHeader n ≡ true)) _ (inl refl) (inr refl, (inr refl, (inr refl, tt)))
 
       go : (b : Bool) → headerRefusal ring c =? 0 ≡ b → GoodHeader ring c
       go true e = good-header ring c .0 (eqb-true _ _ e)
       go false e =
-          ⊎-elim (λ z. absurd (eqb-false _ _ e z)) (λ h. absurd (n (subst OfHeader (sym (command-first ring c ∙ rw e)) h))) number
+          ⊎-elim (λ z. absurd (eqb-false _ _ e z)) (λ h. absurd (not-both _ h (rw (command-first ring c, e) at n))) number
 
 -- a command that is there is ready, and one that is not there is not
 module _ (ring : List ℕ) (c : Core) (w : ℕ) where
   ready-unless : (NoCommand ring c w → ⊥) → ready ring c w ≡ true
   ready-unless n = ⊎-elim (λ e. e) (λ e. absurd (n (not-ready ring c w e))) (true-or-false (ready ring c w))
 
-  header-ready : 0 < waiting (c .ringlength) (c .read) w → (GoodHeader ring c → ⊥) → ready ring c w ≡ true
-  header-ready l bad = ready-unless go
+  header-ready : judgedOn (commandRefusal ring c) (kindOf (headerAt ring c)) ≤ waiting (c .ringlength) (c .read) w
+      → ofHeader (commandRefusal ring c) ≡ true → ready ring c w ≡ true
+  header-ready l h = ready-unless go
     where
       go : NoCommand ring c w → ⊥
-      go (no-word z) = omega arith
-      go (not-whole g f) = bad g
+      go (no-word z) =
+          omega (arith, if-both (λ (n : ℕ). 0 < n) (commandRefusal ring c =? 21) {a = 1} (omega arith) (judged-some ring c))
+      go (not-whole g f) = of-header ring c h g
+      go (not-judged u) = omega (arith, u .words-few, rw (only-21 ring c (u .no-21)) at l)
 
   whole-ready : Whole ring c w → ready ring c w ≡ true
   whole-ready h = ready-unless go
     where
       go : NoCommand ring c w → ⊥
-      go (no-word z) = omega (arith, h .words-wait)
+      go (no-word z) = omega (arith, h .words-wait, judged-some ring c, judged-within ring c)
       go (not-whole g f) = f h
+      go (not-judged u) = omega (arith, h .words-wait, judged-within ring c, u .words-few)
 
   none-possible : drawing (c .place) ≡ false → NoCommand ring c w → possible ring c w ≡ false
   none-possible p h =
@@ -270,11 +293,12 @@ module _ (ring : List ℕ) (c : Core) (w : ℕ) where
 judged-when : JudgedWhen
 judged-when = record {
   header-waits = λ ring m w z p l h. (
-    idle-possible ring (m .core) w z p ∙ header-ready ring (m .core) w l (of-header ring (m .core) h),
-    ap (λ (k : Machine). k .core .stop)
-        (unit-refuses ring m p (λ q. ⊎-elim (λ t. absurd (omega arith)) (λ t. absurd (omega arith)) h))
+    idle-possible ring (m .core) w z p ∙ header-ready ring (m .core) w l h,
+    ap (λ (k : Machine). k .core .stop) (unit-refuses ring m p (λ q. not-both (ofHeader 0) (rw q at h) refl))
         ∙ stopped-keeps (m .core) (commandRefusal ring (m .core)) .4,
   );
+  few-wait = λ ring m w budget used p u.
+      units-stop ring w budget used m (none-possible ring (m .core) w p (not-judged u));
   others-whole = λ ring c w p e n. ready-whole ring c w (possible-ready ring c w p e) (header-good ring c n);
   whole-judged = λ ring c w z p h. idle-possible ring c w z p ∙ whole-ready ring c w h;
   part-waits = λ ring m w budget used p g f.

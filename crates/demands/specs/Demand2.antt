@@ -7,13 +7,17 @@ use native.Mathlib.Omega.{arith}
 use native.Mathlib.Nat.{add-zero}
 use Rattle.model.specs.Choice.{_≤?_, if_then_else_, not-both}
 use Rattle.model.specs.Completion.{retired}
-use Rattle.model.specs.Unit.{Machine, Done, pixelCount, drawPixel, drawnCore, unit, drawing, possible, units, done, times}
+use Rattle.model.specs.Command.{kindOf, filled, loadedTable}
+use Rattle.model.specs.Unit.{Machine, Done, headerAt, commandRefusal, tableAfter, pixelCount, drawPixel, drawnCore, unit, drawing, possible, units, done, times}
 use Rattle.model.specs.Steps.{Step, loads, refuses, draws, step-of}
 use Rattle.model.specs.Calls.{runRefusal, runUnits, run, runFrame, ranAnswer, unitsOf, stateAfter, machineOf}
+use Rattle.model.specs.declared.Core.{Core}
 use Rattle.model.specs.declared.State.{State}
+use Rattle.model.specs.declared.Kind.{Kind}
+use Rattle.model.specs.declared.Kind.the-variants.{Blt, Vector, Table}
 use Rattle.model.specs.declared.Primitive.{Primitive}
 use Rattle.model.specs.declared.Place.the-variants.{Drawing}
-use Rattle.laws.specs.Units.{unit-draws, units-zero, units-stop, units-step, units-add, units-shift}
+use Rattle.laws.specs.Units.{unit-loads, unit-draws, units-zero, units-stop, units-step, units-add, units-shift}
 
 -- ---- the statement
 
@@ -53,13 +57,24 @@ BudgetsAdd =
 abbrev pub LoadPaintsNothing : Type 0
 LoadPaintsNothing = (ring : List ℕ) (m : Machine) → drawing (m .core .place) ≡ false → unit ring m .frame ≡ m .frame
 
--- the unit of pixel k paints that pixel and no other, and moves no register and no pointer; the last one retires the command.
--- Ruled out: an engine that paints nothing; one that retires a command early.
+-- the unit that loads a table load stores all its data, and the unit that loads another command, or refuses one, changes no word of
+-- the lookup table: "demands 1 and 2 count it with the registers" (W4). Ruled out: an engine that takes a unit for each data word;
+-- one that clears the table when it loads a BLT.
+pub record LoadFills : Type 0 where
+  pub loads-data : (ring : List ℕ) (m : Machine) → drawing (m .core .place) ≡ false → commandRefusal ring (m .core) ≡ 0
+      → unit ring m .table ≡ tableAfter ring (m .core) (m .table)
+  pub others-leave : (ring : List ℕ) (m : Machine) → drawing (m .core .place) ≡ false
+      → (commandRefusal ring (m .core) ≡ 0 → kindOf (headerAt ring (m .core)) ≡ Table → ⊥)
+      → unit ring m .table ≡ m .table
+
+-- the unit of pixel k paints that pixel and no other, and moves no register, no word of the table and no pointer; the last one
+-- retires the command. Ruled out: an engine that paints nothing; one that retires a command early.
 abbrev pub PixelPaints : Type 0
 PixelPaints =
     (ring : List ℕ) (m : Machine) (primitive : Primitive) (k : ℕ) → m .core .place ≡ Drawing primitive k
-    → (unit ring m .frame ≡ drawPixel primitive (m .core .registers) k (m .frame))
+    → (unit ring m .frame ≡ drawPixel primitive (m .core .registers) (m .table) k (m .frame))
     × (unit ring m .core .registers ≡ m .core .registers)
+    × (unit ring m .table ≡ m .table)
     × (unit ring m .core .read ≡ m .core .read)
     × (unit ring m .core .completion
     ≡ (if pixelCount primitive (m .core .registers) ≤? k + 1 then retired (m .core .completion) else m .core .completion))
@@ -69,6 +84,7 @@ pub record Demand2 : Type 0 where
   pub run-is : RunIs
   pub budgets-add : BudgetsAdd
   pub load-paints-nothing : LoadPaintsNothing
+  pub load-fills : LoadFills
   pub pixel-paints : PixelPaints
 
 -- ---- the proof
@@ -125,9 +141,30 @@ load-paints-nothing ring m p = go (step-of ring m)
     go (refuses q n u) = rw u
     go (draws primitive k q u) = absurd (not-both _ (ap drawing q) p)
 
+module _ (ring : List ℕ) (m : Machine) (idle : drawing (m .core .place) ≡ false) where
+  loads-data : commandRefusal ring (m .core) ≡ 0 → unit ring m .table ≡ tableAfter ring (m .core) (m .table)
+  loads-data e = ap (λ (k : Machine). k .table) (unit-loads ring m idle e)
+
+  others-leave : (commandRefusal ring (m .core) ≡ 0 → kindOf (headerAt ring (m .core)) ≡ Table → ⊥) → unit ring m .table ≡ m .table
+  unfolding tableAfter loadedTable
+  others-leave other = go (step-of ring m)
+    where
+      c : Core
+      c = m .core
+
+      left : (k : Kind) (index : ℕ) → (k ≡ Table → ⊥) → filled k ring (c .read) index (m .table) ≡ m .table
+      left Blt index n = refl
+      left Vector index n = refl
+      left Table index n = absurd (n refl)
+
+      go : Step ring m → unit ring m .table ≡ m .table
+      go (loads p e u) = rw u (left (kindOf (headerAt ring c)) _ (other e))
+      go (refuses p n u) = rw u
+      go (draws primitive k p u) = rw u
+
 pixel-paints : PixelPaints
 unfolding drawnCore
-pixel-paints ring m primitive k p = rw (unit-draws ring m primitive k p) (refl, refl, refl, refl)
+pixel-paints ring m primitive k p = rw (unit-draws ring m primitive k p) (refl, refl, refl, refl, refl)
 
 pub demand2 : Demand2
 demand2 = record {
@@ -135,5 +172,6 @@ demand2 = record {
   run-is = run-is;
   budgets-add = budgets-add;
   load-paints-nothing = load-paints-nothing;
+  load-fills = record { loads-data = loads-data; others-leave = others-leave };
   pixel-paints = pixel-paints;
 }

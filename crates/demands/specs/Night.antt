@@ -568,7 +568,7 @@ whole-night tape s frame calls fit hosted =
 
 -- a configuration from its machine, write pointer and sum
 abbrev stood : Machine → ℕ → ℕ → Configuration
-stood m w k = record { state = record { core = m .core; write = w }; frame = m .frame; sum = k }
+stood m w k = record { state = record { core = m .core; table = m .table; write = w }; frame = m .frame; sum = k }
 
 module _ (tape : ℕ → ℕ) (s : State) (frame : List ℕ) (fit : unfit s ≡ false) where
   abbrev x : Reading

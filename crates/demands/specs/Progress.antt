@@ -8,17 +8,17 @@ use mathlib.Core.Logic.{⊎-elim}
 use mathlib.Core.List.{List}
 use native.Mathlib.Omega.{arith}
 use native.Mathlib.Nat.{mod-lt, mul-le-mul, div-add-mod'}
-use lib.ListN.{length, replicate}
+use lib.ListN.{replicate}
 use borrow.Author.Tests.{leb-true, leb-false, ltb-false, eqb-true}
 use Rattle.model.specs.Choice.{_<?_, _≤?_, _=?_, if_then_else_, true-or-false, neither, if-both}
 use Rattle.model.specs.Limits.{ringMost, budgetMost, sideMost, stopLeast, stopMost}
 use Rattle.model.specs.Registers.{width, height, vectorLength}
 use Rattle.model.specs.Bits.{set?}
 use Rattle.model.specs.Ring.{waiting, distance-lt, empty}
-use Rattle.model.specs.Command.{kindOf, wordRegisters, commandLength, primitiveOf, drawnBy, badReturn, wholeWords, readAfter}
+use Rattle.model.specs.Command.{kindOf, commandLength, drawnOf, drawnBy, badReturn, wholeWords, readAfter}
 use Rattle.model.specs.BltPixel.{bltOf, rectangleOf}
 use Rattle.model.specs.VectorPixel.{vectorOf}
-use Rattle.model.specs.Unit.{Machine, headerAt, loadedAt, lengthAt, returnsAt, commandRefusal, stopped, placeAfter, loadedCore, drawnCore, pixelCount, unit, possible, units}
+use Rattle.model.specs.Unit.{Machine, headerAt, loadedAt, countedAt, lengthAt, returnsAt, commandRefusal, stopped, placeAfter, loadedCore, drawnCore, pixelCount, unit, possible, units}
 use Rattle.model.specs.Steps.{Step, loads, refuses, draws, step-of}
 use Rattle.model.specs.Course.{Configuration}
 use Rattle.model.specs.Perform.{runs, total, Fixed}
@@ -26,7 +26,7 @@ use Rattle.model.specs.declared.Core.{Core}
 use Rattle.model.specs.declared.State.{State}
 use Rattle.model.specs.declared.Drawn.the-variants.{Nothing, Draws}
 use Rattle.model.specs.declared.Kind.{Kind}
-use Rattle.model.specs.declared.Kind.the-variants.{Blt, Vector}
+use Rattle.model.specs.declared.Kind.the-variants.{Blt, Vector, Table}
 use Rattle.model.specs.declared.Primitive.{Primitive}
 use Rattle.model.specs.declared.Primitive.the-variants.{Blt as BltPrimitive, Vector as VectorPrimitive}
 use Rattle.model.specs.declared.Place.{Place}
@@ -38,7 +38,7 @@ use Rattle.laws.specs.WellFormed.{WellFormed, wellformed-units}
 use Rattle.demands.specs.Courses.{configuration, machineIn}
 use Rattle.demands.specs.Runs.{runs-total}
 use Rattle.demands.specs.Arrival.{advance}
-use Rattle.demands.specs.Waits.{Whole, NoCommand, no-word, not-whole, Waits, good-header, own-words, whole-waits, ready-whole, impossible-waits}
+use Rattle.demands.specs.Waits.{Whole, NoCommand, no-word, not-whole, not-judged, Waits, judged-some, judged-within, good-header, own-words, whole-waits, ready-whole, impossible-waits}
 
 -- ---- the statement: how many units can be left
 
@@ -50,9 +50,10 @@ shared n m = (n + m - 1) / m
 abbrev pub commandUnits : ℕ
 commandUnits = sideMost * sideMost + 1
 
--- Each of the 17 words of a BLT is good for its share of them. (A vector has 14 words and far fewer pixels, 4095.)
+-- Each of the 17 words of a BLT is good for its share of them. (A vector has 14 words and far fewer pixels, 4095; a table load has
+-- four words or more, and is one unit.)
 abbrev pub wordUnits : ℕ
-wordUnits = shared commandUnits (commandLength Blt)
+wordUnits = shared commandUnits (commandLength Blt 0)
 
 -- the pixels that are left of the command that is being drawn
 abbrev pub pixelsLeft : List ℕ → Place → ℕ
@@ -78,7 +79,8 @@ enoughRuns = replicate (runsFor ringMost) budgetMost
 
 -- ---- the statement
 
--- what still waits is less than a command: not all its words, or, with W, not those up to the ring's end
+-- what still waits is less than a command: not all its words, or, with W, not those up to the ring's end. (Fewer than three words
+-- of a table load are less than all of them, whatever stands where its count word will be.)
 pub data Part (ring : List ℕ) (c : Core) (write : ℕ) : Type 0 where
   words-missing : waiting (c .ringlength) (c .read) write < lengthAt ring c → Part ring c write
   end-missing : returnsAt ring c ≡ true → waiting (c .ringlength) (c .read) write < c .ringlength - c .read → Part ring c write
@@ -146,16 +148,20 @@ pixels-most BltPrimitive registers =
 pixels-most VectorPrimitive registers = field-most (vectorLength registers) (mod-lt _ (omega arith))
 
 -- a unit for its load and its pixels, over its words
-drawn-share : (header : ℕ) (registers : List ℕ)
-    → pixelsLeft registers (placeAfter (drawnBy header)) + 1 ≤ wordUnits * commandLength (kindOf header)
+drawn-share : (header counted : ℕ) (registers : List ℕ)
+    → pixelsLeft registers (placeAfter (drawnBy header)) + 1 ≤ wordUnits * commandLength (kindOf header) counted
 unfolding drawnBy
-drawn-share header registers = go (set? header (length (wordRegisters (kindOf header)) - 1)) (kindOf header)
+drawn-share header counted registers = go (kindOf header)
   where
-    go : (b : Bool) (kind : Kind)
-        → pixelsLeft registers (placeAfter (if b then Draws (primitiveOf kind) else Nothing)) + 1 ≤ wordUnits * commandLength kind
-    go false kind = omega arith
-    go true Blt = omega (arith, pixels-most BltPrimitive registers)
-    go true Vector = omega (arith, pixels-most VectorPrimitive registers)
+    drawn : (primitive : Primitive) (b : Bool)
+        → pixelsLeft registers (placeAfter (if b then Draws primitive else Nothing)) ≤ pixelsMost primitive
+    drawn primitive true = omega (arith, pixels-most primitive registers)
+    drawn primitive false = omega arith
+
+    go : (kind : Kind) → pixelsLeft registers (placeAfter (drawnOf kind header)) + 1 ≤ wordUnits * commandLength kind counted
+    go Blt = omega (arith, drawn BltPrimitive (set? header 15))
+    go Vector = omega (arith, drawn VectorPrimitive (set? header 12))
+    go Table = omega arith
 
 -- ---- each unit leaves fewer
 
@@ -165,7 +171,7 @@ module _ (ring : List ℕ) (w : ℕ) (c : Core) (fit : Fit c w) where
   loads-less a e =
       let less = waits-less (c .ringlength) (c .read) w (lengthAt ring c) (returnsAt ring c) (fit .read-in) (fit .write-in)
       (accepted-return ring c a) (whole-waits ring c w .0 e) in
-      omega (arith, drawn-share (headerAt ring c) (loadedAt ring c))
+      omega (arith, drawn-share (headerAt ring c) (countedAt ring c) (loadedAt ring c))
 
   refuses-less : c .stop ≡ 0 → (commandRefusal ring c ≡ 0 → ⊥) → unitsLeft w (stopped c (commandRefusal ring c)) < unitsLeft w c
   unfolding unitsLeft stopped
@@ -255,7 +261,8 @@ units-enough w c fit =
 
 part : (ring : List ℕ) (c : Core) (w : ℕ) → NoCommand ring c w → Part ring c w
 unfolding wholeWords
-part ring c w (no-word e) = words-missing (omega arith)
+part ring c w (no-word e) = words-missing (omega (arith, judged-some ring c, judged-within ring c))
+part ring c w (not-judged u) = words-missing (omega (arith, u .words-few, judged-within ring c))
 part ring c w (not-whole g f) = go (returnsAt ring c) (lengthAt ring c <? n - c .read) refl (leb-false _ _ short)
   where
     n : ℕ

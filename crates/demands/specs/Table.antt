@@ -39,7 +39,8 @@ rulesOf ring asking y = roomRules (y .state)
 rulesOf ring restarting y = restartRules (y .state)
 
 -- a number that is "given exactly when" its rule is the first that applies, which is the rule with the lowest number: "Where
--- several apply the lowest wins". Ruled out: an engine that refuses everything; one that looks for 24 before 23.
+-- several apply the lowest wins". Lowest is meant by `order`, since W4 has 29 judged "before 22". Ruled out: an engine that refuses
+-- everything; one that looks for 24 before 23; one that looks for 22 before 29.
 pub record Given (rules : List Rule) (number : ℕ) : Type 0 where
   pub exact : Exactly rules number
   pub lowest : (n : ℕ) → First rules n ↔ Lowest rules n

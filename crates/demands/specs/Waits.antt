@@ -1,4 +1,4 @@
--- Waiting, in the words of demand 1: "nothing is being drawn and no whole command waits", and none that 21 or 22 refuses.
+-- Waiting, in the words of demand 1: "nothing is being drawn and no whole command waits", and none that 21, 29 or 22 refuses.
 use Prim.Native.Nat.{ℕ, _-_, _≤_, _<_}
 use mathlib.Core.Path.{_≡_, refl}
 use mathlib.Core.Bool.{Bool, true, false}
@@ -6,31 +6,41 @@ use mathlib.Core.Logic.{_↔_, ⊎-elim}
 use mathlib.Core.List.{List}
 use native.Mathlib.Omega.{arith}
 use borrow.Author.Tests.{leb-true, leb-false, lt-leb, ltb-true, ltb-false, eqb-true, eqb-false, eq-eqb}
-use Rattle.model.specs.Choice.{_<?_, _≤?_, _=?_, if_then_else_, true-or-false, not-both, neither}
+use Rattle.model.specs.Choice.{_<?_, _≤?_, _=?_, if_then_else_, true-or-false, not-both, neither, if-both}
 use Rattle.model.specs.Refusals.{NoRule, positive, exactly}
 use Rattle.model.specs.Ring.{waiting}
-use Rattle.model.specs.Command.{headerRules, wholeWords}
-use Rattle.model.specs.Unit.{headerAt, lengthAt, returnsAt, headerRefusal, needed, ready, drawing, possible}
+use Rattle.model.specs.Command.{kindOf, badHeader, commandLength, judgedWords, wholeWords}
+use Rattle.model.specs.Unit.{headerAt, countedAt, lengthAt, returnsAt, rulesAt, headerRefusal, refusedWords, needed, ready, drawing, possible}
 use Rattle.model.specs.Calls.{runWord}
 use Rattle.model.specs.declared.Core.{Core}
 use Rattle.model.specs.declared.State.{State}
+use Rattle.model.specs.declared.Kind.{Kind}
+use Rattle.model.specs.declared.Kind.the-variants.{Blt, Vector, Table}
 use Rattle.model.specs.declared.RunWord.the-variants.{Stopped, Waiting, Spent}
 
 -- ---- the definitions, of the command at the read pointer
 
--- "It is whole when all its words wait and, with W, when the words waiting also reach the ring's end."
+-- "It is whole when all its words wait and, with W, when the words waiting also reach the ring's end." (A table load has three words
+-- and its data, so its count word waits then.)
 pub record Whole (ring : List ℕ) (c : Core) (write : ℕ) : Type 0 where
   pub words-wait : lengthAt ring c ≤ waiting (c .ringlength) (c .read) write
   pub reach-end : returnsAt ring c ≡ true → c .ringlength - c .read ≤ waiting (c .ringlength) (c .read) write
 
--- neither 21 nor 22 applies to its header
+-- neither 21 nor 22 applies to its header, nor, of a table load, 29 to its count word
 abbrev pub GoodHeader : List ℕ → Core → Type 0
-GoodHeader ring c = NoRule (headerRules (c .ringlength) (c .read) (headerAt ring c) (lengthAt ring c))
+GoodHeader ring c = NoRule (rulesAt ring c)
 
--- no word waits, or the header is good and the command is not whole
+-- 21 does not apply, and fewer words wait than 29 and 22 are judged on: W4 has 29 "judged as soon as three words wait and before 22,
+-- which for this kind waits for them too"
+pub record Unjudged (ring : List ℕ) (c : Core) (write : ℕ) : Type 0 where
+  pub no-21 : badHeader (headerAt ring c) ≡ false
+  pub words-few : waiting (c .ringlength) (c .read) write < judgedWords (kindOf (headerAt ring c))
+
+-- no word waits, or the header is good and the command is not whole, or too few words of a table load wait to tell
 pub data NoCommand (ring : List ℕ) (c : Core) (write : ℕ) : Type 0 where
   no-word : waiting (c .ringlength) (c .read) write ≡ 0 → NoCommand ring c write
   not-whole : GoodHeader ring c → (Whole ring c write → ⊥) → NoCommand ring c write
+  not-judged : Unjudged ring c write → NoCommand ring c write
 
 -- the engine waits
 pub record Waits (ring : List ℕ) (s : State) : Type 0 where
@@ -55,16 +65,28 @@ whole-words size read length n true = go (length <? size - read) refl
 pub own-words : (size read length : ℕ) (w : Bool) → length ≤ wholeWords size read length w
 own-words size read length w = whole-words size read length (wholeWords size read length w) w .0 (omega arith) .0
 
+-- a command is judged on one word or more, and on no more than it has
+judged-words : (kind : Kind) (counted : ℕ) → (0 < judgedWords kind) × (judgedWords kind ≤ commandLength kind counted)
+judged-words Blt counted = (omega arith, omega arith)
+judged-words Vector counted = (omega arith, omega arith)
+judged-words Table counted = (omega arith, omega arith)
+
 -- the words that it needs before it is loaded or refused
 pub data Needs (ring : List ℕ) (c : Core) : Type 0 where
-  its-header : (GoodHeader ring c → ⊥) → needed ring c ≡ 1 → Needs ring c
+  its-header : (GoodHeader ring c → ⊥) → needed ring c ≡ refusedWords ring c → Needs ring c
   all-words : GoodHeader ring c → needed ring c ≡ wholeWords (c .ringlength) (c .read) (lengthAt ring c) (returnsAt ring c)
       → lengthAt ring c ≤ needed ring c → Needs ring c
 
 module _ (ring : List ℕ) (c : Core) where
+  pub judged-some : 0 < judgedWords (kindOf (headerAt ring c))
+  judged-some = judged-words (kindOf (headerAt ring c)) (countedAt ring c) .0
+
+  pub judged-within : judgedWords (kindOf (headerAt ring c)) ≤ lengthAt ring c
+  judged-within = judged-words (kindOf (headerAt ring c)) (countedAt ring c) .1
+
   pub good-header : (headerRefusal ring c ≡ 0) ↔ GoodHeader ring c
   unfolding headerRefusal positive
-  good-header = exactly (headerRules (c .ringlength) (c .read) (headerAt ring c) (lengthAt ring c)) refl .not-given
+  good-header = exactly (rulesAt ring c) refl .not-given
 
   pub needs-of : Needs ring c
   unfolding needed
@@ -74,12 +96,20 @@ module _ (ring : List ℕ) (c : Core) where
       go true e = all-words (good-header .0 (eqb-true _ _ e)) (rw e) (rw e (own-words _ _ (lengthAt ring c) (returnsAt ring c)))
       go false e = its-header (λ g. eqb-false _ _ e (good-header .1 g)) (rw e)
 
+  -- no fewer than it is judged on, where 21 does not apply
+  pub needs-judged : badHeader (headerAt ring c) ≡ false → judgedWords (kindOf (headerAt ring c)) ≤ needed ring c
+  needs-judged b = go needs-of
+    where
+      go : Needs ring c → judgedWords (kindOf (headerAt ring c)) ≤ needed ring c
+      go (its-header g e) = rw (e, b) (omega arith)
+      go (all-words g e l) = omega (arith, judged-within)
+
   pub needs-some : 0 < needed ring c
   needs-some = go needs-of
     where
       go : Needs ring c → 0 < needed ring c
-      go (its-header g e) = omega arith
-      go (all-words g e l) = omega arith
+      go (its-header g e) = rw e (if-both (λ (n : ℕ). 0 < n) (badHeader (headerAt ring c)) (omega arith) judged-some)
+      go (all-words g e l) = omega (arith, judged-some, judged-within)
 
 module _ (ring : List ℕ) (c : Core) (w : ℕ) where
   abbrev words : ℕ
@@ -109,7 +139,12 @@ module _ (ring : List ℕ) (c : Core) (w : ℕ) where
   not-ready e = go (needs-of ring c) (leb-false _ _ e)
     where
       go : Needs ring c → words < needed ring c → NoCommand ring c w
-      go (its-header h n) l = no-word (omega arith)
+      go (its-header h n) l = refused (badHeader (headerAt ring c)) refl (rw n at l)
+        where
+          refused : (b : Bool) → badHeader (headerAt ring c) ≡ b
+              → words < (if b then 1 else judgedWords (kindOf (headerAt ring c))) → NoCommand ring c w
+          refused true b l = no-word (omega arith)
+          refused false b l = not-judged (record { no-21 = b; words-few = l })
       go (all-words h n m) l = not-whole h (λ x. omega (arith, whole-waits .0 x))
 
   pub none-ready : NoCommand ring c w → ready ring c w ≡ false
@@ -117,6 +152,7 @@ module _ (ring : List ℕ) (c : Core) (w : ℕ) where
   none-ready (no-word e) = lt-leb (needed ring c) words (omega (arith, needs-some ring c))
   none-ready (not-whole g f) =
       ⊎-elim (λ p. absurd (f (ready-whole p g))) (λ p. p) (true-or-false (needed ring c ≤? words))
+  none-ready (not-judged u) = lt-leb (needed ring c) words (omega (arith, u .words-few, needs-judged ring c (u .no-21)))
 
 -- ---- the engine waits
 
