@@ -1,24 +1,28 @@
-// Commands in the ring: what a header says, the refusals 21 and 22, the words that must wait, the registers after loading, and
-// the read pointer after it.
+// Commands in the ring: what a header and a count word say, the refusals 21, 29 and 22, the words that must wait, the registers and
+// the lookup table after loading, and the read pointer after it.
 ghost use mathlib.Core.Path.{_≡_};
-ghost use mathlib.Core.Bool.{true};
+ghost use mathlib.Core.Bool.{true, false};
 ghost use mathlib.Core.List.{List};
-ghost use Prim.Native.Nat.{ℕ, _+_, _≤_, _<_};
+ghost use Prim.Native.Nat.{ℕ, _+_, _%_, _≤_, _<_};
 ghost use lib.ListN.{length, getD};
-ghost use Rattle.model.specs.Limits.{ringLeast, ringMost};
+ghost use Rattle.model.specs.Limits.{ringLeast, tableLength};
 ghost use Rattle.model.specs.Registers.{registerCount};
 ghost use Rattle.model.specs.Refusals.{first};
-ghost use Rattle.model.specs.Command.{returns, kindOf, badHeader, wordRegisters, commandLength, primitiveOf, drawnBy, badReturn, headerRules, wholeWords, readAfter, loaded};
+ghost use Rattle.model.specs.Lookup.{dataCount, badCount, indexAfter, dataStored};
+ghost use Rattle.model.specs.Command.{returns, kindOf, badHeader, wordRegisters, countWord, commandLength, drawnBy, badReturn, badTable, headerRules, wholeWords, readAfter, enabled, loaded, loadedTable};
 ghost use Rattle.model.specs.Choice.{if_then_else_};
-ghost use Rattle.model.specs.declared.Kind.the-variants.{Blt as BltKind, Vector as VectorKind};
-ghost use Rattle.command.specs.Look.{look};
+ghost use Rattle.model.specs.declared.Drawn.the-variants.{Nothing, Draws};
+ghost use Rattle.model.specs.declared.Kind.the-variants.{Blt as BltKind, Vector as VectorKind, Table as TableKind};
+ghost use Rattle.command.specs.Look.{neededWords, look, isReady, refusedAt, plainSeen, tableSeen};
 ghost use Rattle.command.specs.Pieces.{InPiece};
 use model::Drawn;
 use model::Kind;
+use model::LUT_INDEX;
 use model::Primitive;
 use model::REGISTERS;
+use model::TABLE;
 
-// ---- the header
+// ---- the header and the count word
 
 // The command's kind, of a header that 21 does not refuse.
 pub fn kind_of(header: u32) -> Kind
@@ -26,7 +30,8 @@ pub fn kind_of(header: u32) -> Kind
 {
     match fields::bits(header, 30, 29) {
         0b00 => Kind::Blt,
-        _ => Kind::Vector,
+        0b01 => Kind::Vector,
+        _ => Kind::Table,
     }
 }
 
@@ -37,6 +42,7 @@ fn bad_header(header: u32) -> bool
     match fields::bits(header, 30, 29) {
         0b00 => fields::bits(header, 27, 16) != 0,
         0b01 => fields::bits(header, 27, 13) != 0,
+        0b10 => fields::bits(header, 27, 2) != 0,
         _ => true,
     }
 }
@@ -48,72 +54,124 @@ pub fn returns(header: u32) -> bool
     fields::is_set(header, 31)
 }
 
-// How many words follow the header.
+// The word that a table load at this position has its count in.
+pub fn count_word(ring: &[u32], read: usize) -> u32
+    requires { ⌜ (read < length (now ring)) × (ringLeast ≤ length (now ring)) ⌝ }
+    ensures { λ r. ⌜ r ≡ countWord (now (ring .entry)) read ⌝ }
+{
+    ring::word_at(ring, read, 2)
+}
+
+// How many data words a table load has.
+fn data_count(counted: u32) -> usize
+    ensures { λ r. ⌜ r ≡ dataCount counted ⌝ }
+{
+    fields::number(counted, 15, 0)
+}
+
+// Whether a table load's count word has another DTYPE than 011, a reserved bit set, or a count of 0 or above 512.
+fn bad_count(counted: u32) -> bool
+    ensures { λ r. ⌜ r ≡ badCount counted ⌝ }
+{
+    if fields::bits(counted, 31, 29) != 0b011 {
+        return true;
+    }
+    if fields::bits(counted, 28, 16) != 0 {
+        return true;
+    }
+    let count = data_count(counted);
+    if count == 0 {
+        return true;
+    }
+    TABLE < count
+}
+
+// The same of a command of any kind: only a table load has a count word.
+fn bad_table(kind: Kind, counted: u32) -> bool
+    ensures { λ r. ⌜ r ≡ badTable kind counted ⌝ }
+{
+    match kind {
+        Kind::Blt => false,
+        Kind::Vector => false,
+        Kind::Table => bad_count(counted),
+    }
+}
+
+// How many words after the header are for registers.
 fn word_count(kind: Kind) -> usize
-    ensures { λ r. ⌜ (r ≡ length (wordRegisters kind)) × (0 < r) × (r < registerCount) ⌝ }
+    ensures { λ r. ⌜ (r ≡ length (wordRegisters kind)) × (r < registerCount) ⌝ }
 {
     match kind {
         Kind::Blt => 16,
         Kind::Vector => 13,
+        Kind::Table => 1,
     }
 }
 
-// How many words a command of this kind has.
-pub fn length_of(kind: Kind) -> usize
-    ensures { λ r. ⌜ (r ≡ commandLength kind) × (r ≤ ringLeast) ⌝ }
-{
-    1 + word_count(kind)
-}
-
-fn primitive_of(kind: Kind) -> Primitive
-    ensures { λ r. ⌜ r ≡ primitiveOf kind ⌝ }
+// How many words a command of this kind has: few enough for every ring, if 29 does not apply.
+pub fn length_of(kind: Kind, counted: u32) -> usize
+    ensures { λ r. ⌜ (r ≡ commandLength kind counted) × (badTable kind counted ≡ false → r ≤ ringLeast) ⌝ }
 {
     match kind {
-        Kind::Blt => Primitive::Blt,
-        Kind::Vector => Primitive::Vector,
+        Kind::Blt => 17,
+        Kind::Vector => 14,
+        Kind::Table => 3 + data_count(counted),
     }
 }
 
-// What the command draws: nothing, unless its last enable is set.
-pub fn drawn_by(header: u32) -> Drawn
-    ensures { λ r. ⌜ r ≡ drawnBy header ⌝ }
+// The primitive where it is drawn, else nothing.
+fn drawn_if(draws: bool, primitive: Primitive) -> Drawn
+    ensures { λ r. ⌜ r ≡ (if draws then Draws primitive else Nothing) ⌝ }
 {
-    let kind = kind_of(header);
-    let primitive = primitive_of(kind);
-    let last = word_count(kind) - 1;
-    let draws = fields::is_set(header, last as u32);
     if draws {
         return Drawn::Draws(primitive);
     }
     Drawn::Nothing
 }
 
+// What the command draws: nothing, unless its last enable is set.
+pub fn drawn_by(header: u32) -> Drawn
+    ensures { λ r. ⌜ r ≡ drawnBy header ⌝ }
+{
+    match kind_of(header) {
+        Kind::Blt => drawn_if(fields::is_set(header, 15), Primitive::Blt),
+        Kind::Vector => drawn_if(fields::is_set(header, 12), Primitive::Vector),
+        Kind::Table => Drawn::Nothing,
+    }
+}
+
 // ---- waiting for a command of so many words, with W or without
 
 // Whether W stands on a command that begins at ring word 0 or runs across the ring's end.
 fn bad_return(size: usize, read: usize, length: usize, w: bool) -> bool
-    requires { ⌜ (read < size) × (length ≤ size) × (size ≤ ringMost) ⌝ }
+    requires { ⌜ read < size ⌝ }
     ensures { λ r. ⌜ r ≡ badReturn size read length w ⌝ }
 {
     if w {
         if read == 0 {
             return true;
         }
-        return size < read + length;
+        return size - read < length;
     }
     false
 }
 
-// The number that the header alone gives, or 0.
-pub fn header_refusal(size: usize, read: usize, header: u32, length: usize) -> u32
-    requires { ⌜ (read < size) × (length ≤ size) × (size ≤ ringMost) ⌝ }
-    ensures { λ r. ⌜ r ≡ first (headerRules size read header length) ⌝ }
+// The number that the header gives, of a table load with its count word, or 0.
+pub fn header_refusal(size: usize, read: usize, header: u32, counted: u32) -> u32
+    requires { ⌜ read < size ⌝ }
+    ensures { λ r. ⌜ r ≡ first (headerRules size read header counted) ⌝ }
 {
+    let kind = kind_of(header);
     let bad = bad_header(header);
+    let count = bad_table(kind, counted);
+    let length = length_of(kind, counted);
+    let back = bad_return(size, read, length, returns(header));
     if bad {
         return 21;
     }
-    let back = bad_return(size, read, length, returns(header));
+    if count {
+        return 29;
+    }
     if back {
         return 22;
     }
@@ -135,54 +193,138 @@ pub fn whole_words(size: usize, read: usize, length: usize, w: bool) -> usize
     length
 }
 
+// How many words must wait before the command is loaded or, where it has a number, refused by that.
+fn needed_words(size: usize, read: usize, header: u32, length: usize, number: u32) -> usize
+    requires { ⌜ read < size ⌝ }
+    ensures { λ r. ⌜ r ≡ neededWords size read header length number ⌝ }
+{
+    let whole = whole_words(size, read, length, returns(header));
+    if number == 0 {
+        return whole;
+    }
+    let bad = bad_header(header);
+    if bad {
+        return 1;
+    }
+    match kind_of(header) {
+        Kind::Blt => 1,
+        Kind::Vector => 1,
+        Kind::Table => 3,
+    }
+}
+
+// The place n further on, of `size` places that go round.
+fn ahead(size: usize, at: usize, n: usize) -> usize
+    requires { ⌜ (at < size) × (n ≤ size) ⌝ }
+    ensures { λ r. ⌜ (r ≡ (at + n) % size) × (r < size) ⌝ }
+{
+    let rest = size - at;
+    if n < rest {
+        return at + n;
+    }
+    n - rest
+}
+
 // Where the read pointer stands after the command.
 pub fn read_after(size: usize, read: usize, length: usize, w: bool) -> usize
-    requires { ⌜ (read < size) × (length ≤ size) × (size ≤ ringMost) ⌝ }
+    requires { ⌜ (read < size) × (length ≤ size) ⌝ }
     ensures { λ r. ⌜ r ≡ readAfter size read length w ⌝ }
 {
     if w {
         return 0;
     }
-    let next = read + length;
-    if next < size {
-        return next;
-    }
-    next - size
+    ahead(size, read, length)
 }
 
 // ---- one look at the header
 
-// What stands at the read pointer: a command of which too few words wait, one that its header refuses, with the number, or
-// a whole one, with what it draws and where the read pointer stands after it.
+// What stands at the read pointer: a command of which too few words wait, one that its header or its count word refuses, with the
+// number, or a whole one, with where the read pointer stands after it: a table load with its count, any other with what it draws.
 pub enum Seen {
     Waits,
     Refused(u32),
     Whole { drawn: Drawn, next: usize },
+    Table { count: usize, next: usize },
 }
 
-// The header is the word at the read pointer, whether it waits or not.
-pub fn look(size: usize, read: usize, write: usize, header: u32) -> Seen
-    requires { ⌜ (read < size) × (write < size) × (ringLeast ≤ size) × (size ≤ ringMost) ⌝ }
-    ensures { λ r. ⌜ r ≡ look size read write header ⌝ }
+// A refusal that is judged as soon as so many words wait.
+fn refused(there: usize, judged: usize, number: u32) -> Seen
+    ensures { λ r. ⌜ r ≡ refusedAt there judged number ⌝ }
 {
-    let there = ring::waiting_words(size, read, write);
-    let length = length_of(kind_of(header));
-    let w = returns(header);
-    let number = header_refusal(size, read, header, length);
-    if number == 0 {
-        let needed = whole_words(size, read, length, w);
-        if needed <= there {
-            return Seen::Whole {
-                drawn: drawn_by(header),
-                next: read_after(size, read, length, w),
-            };
-        }
+    if there < judged {
         return Seen::Waits;
     }
-    if 1 <= there {
-        return Seen::Refused(number);
+    Seen::Refused(number)
+}
+
+// What is seen of a BLT or vector of so many words.
+fn look_plain(size: usize, read: usize, there: usize, length: usize, w: bool, drawn: Drawn) -> Seen
+    requires { ⌜ (read < size) × (length ≤ ringLeast) × (ringLeast ≤ size) ⌝ }
+    ensures { λ r. ⌜ r ≡ plainSeen size read there length w drawn ⌝ }
+{
+    let back = bad_return(size, read, length, w);
+    if back {
+        return refused(there, 1, 22);
     }
-    Seen::Waits
+    let whole = whole_words(size, read, length, w);
+    if there < whole {
+        return Seen::Waits;
+    }
+    let next = read_after(size, read, length, w);
+    Seen::Whole { drawn, next }
+}
+
+// What is seen of a table load.
+fn look_table(size: usize, read: usize, there: usize, w: bool, counted: u32) -> Seen
+    requires { ⌜ (read < size) × (ringLeast ≤ size) ⌝ }
+    ensures { λ r. ⌜ r ≡ tableSeen size read there w counted ⌝ }
+{
+    let length = length_of(Kind::Table, counted);
+    let uncounted = bad_count(counted);
+    let across = bad_return(size, read, length, w);
+    if uncounted {
+        return refused(there, 3, 29);
+    }
+    if across {
+        return refused(there, 3, 22);
+    }
+    let whole = whole_words(size, read, length, w);
+    if there < whole {
+        return Seen::Waits;
+    }
+    let count = data_count(counted);
+    let next = read_after(size, read, length, w);
+    Seen::Table { count, next }
+}
+
+// The header is the word at the read pointer and `counted` the count word there, whether they wait or not.
+pub fn look(size: usize, read: usize, write: usize, header: u32, counted: u32) -> Seen
+    requires { ⌜ (read < size) × (write < size) × (ringLeast ≤ size) ⌝ }
+    ensures { λ r. ⌜ r ≡ look size read write header counted ⌝ }
+{
+    let there = ring::waiting_words(size, read, write);
+    let bad = bad_header(header);
+    if bad {
+        return refused(there, 1, 21);
+    }
+    let w = returns(header);
+    match kind_of(header) {
+        Kind::Blt => look_plain(size, read, there, 17, w, drawn_by(header)),
+        Kind::Vector => look_plain(size, read, there, 14, w, drawn_by(header)),
+        Kind::Table => look_table(size, read, there, w, counted),
+    }
+}
+
+// Whether the command can be loaded or refused. It is not asked of `look`, which has one caller so that the compiler inlines it.
+pub fn is_ready(size: usize, read: usize, write: usize, header: u32, counted: u32) -> bool
+    requires { ⌜ (read < size) × (write < size) ⌝ }
+    ensures { λ r. ⌜ r ≡ isReady size read write header counted ⌝ }
+{
+    let there = ring::waiting_words(size, read, write);
+    let length = length_of(kind_of(header), counted);
+    let number = header_refusal(size, read, header, counted);
+    let needed = needed_words(size, read, header, length, number);
+    needed <= there
 }
 
 // ---- loading
@@ -217,6 +359,7 @@ fn register_of(kind: Kind, i: usize) -> usize
     match kind {
         Kind::Blt => i,
         Kind::Vector => vector_register(i),
+        Kind::Table => LUT_INDEX,
     }
 }
 
@@ -246,15 +389,15 @@ fn load_piece(registers: [u32; REGISTERS], words: &[u32], header: u32) -> [u32; 
     out
 }
 
-// The registers after loading any command, whose words may run across the ring's end.
-fn load_words(
+// The registers with the words that any command has for them, which may run across the ring's end.
+fn load_each(
     registers: [u32; REGISTERS],
     ring: &[u32],
     read: usize,
     header: u32,
 ) -> [u32; REGISTERS]
     requires { ⌜ (read < length (now ring)) × (ringLeast ≤ length (now ring)) ⌝ }
-    ensures { λ r. ⌜ r ≡ loaded (now (ring .entry)) read header registers ⌝ }
+    ensures { λ r. ⌜ r ≡ enabled (now (ring .entry)) read header registers ⌝ }
 {
     let kind = kind_of(header);
     let count = word_count(kind);
@@ -272,6 +415,53 @@ fn load_words(
     out
 }
 
+// The same of a vector whose words are lent in one piece.
+fn load_vector(registers: [u32; REGISTERS], words: &[u32], header: u32) -> [u32; REGISTERS]
+    requires { ⌜ (length (now words) ≡ 13) × (kindOf header ≡ VectorKind) ⌝ }
+    ensures { λ r. ⌜ ((ring : List ℕ) (read : ℕ) → InPiece ring read (now (words .entry)) → r ≡ enabled ring read header registers) ⌝ }
+{
+    let mut out = registers;
+    let mut i = 0;
+    while i < 13 {
+        let on = fields::is_set(header, i as u32);
+        let r = vector_register(i);
+        out[r] = chosen(on, words[i], out[r]);
+        i += 1;
+    }
+    out
+}
+
+// Whether a command is a vector whose words are in one piece.
+fn vector_piece(kind: Kind, read: usize, size: usize) -> bool
+    requires { ⌜ read < size ⌝ }
+    ensures { λ r. ⌜ (r ≡ true → (kind ≡ VectorKind) × (read + 14 ≤ size)) ⌝ }
+{
+    match kind {
+        Kind::Blt => false,
+        Kind::Vector => 14 <= size - read,
+        Kind::Table => false,
+    }
+}
+
+// The same of any command. It has two callers, so that the compiler leaves it out of `load`.
+fn load_words(
+    registers: [u32; REGISTERS],
+    ring: &[u32],
+    read: usize,
+    header: u32,
+) -> [u32; REGISTERS]
+    requires { ⌜ (read < length (now ring)) × (ringLeast ≤ length (now ring)) ⌝ }
+    ensures { λ r. ⌜ r ≡ enabled (now (ring .entry)) read header registers ⌝ }
+{
+    let piece = vector_piece(kind_of(header), read, ring.len());
+    if piece {
+        let a = read + 1;
+        let e = a + 13;
+        return load_vector(registers, &ring[a..e], header);
+    }
+    load_each(registers, ring, read, header)
+}
+
 // Whether a command is a BLT whose words are in one piece.
 fn in_piece(kind: Kind, read: usize, size: usize) -> bool
     requires { ⌜ read < size ⌝ }
@@ -280,12 +470,13 @@ fn in_piece(kind: Kind, read: usize, size: usize) -> bool
     match kind {
         Kind::Blt => 17 <= size - read,
         Kind::Vector => false,
+        Kind::Table => false,
     }
 }
 
-// The registers as they are after loading the command at the read pointer.
+// The registers as they are after loading the BLT or vector at the read pointer.
 pub fn load(registers: [u32; REGISTERS], ring: &[u32], read: usize, header: u32) -> [u32; REGISTERS]
-    requires { ⌜ (read < length (now ring)) × (ringLeast ≤ length (now ring)) ⌝ }
+    requires { ⌜ (kindOf header ≡ TableKind → ⊥) × (read < length (now ring)) × (ringLeast ≤ length (now ring)) ⌝ }
     ensures { λ r. ⌜ r ≡ loaded (now (ring .entry)) read header registers ⌝ }
 {
     let piece = in_piece(kind_of(header), read, ring.len());
@@ -295,4 +486,53 @@ pub fn load(registers: [u32; REGISTERS], ring: &[u32], read: usize, header: u32)
         return load_piece(registers, &ring[a..e], header);
     }
     load_words(registers, ring, read, header)
+}
+
+// ---- table loads
+
+// The index after so many data words: its bits 8:0 go round, the others stay.
+fn index_after(index: u32, count: usize) -> u32
+    requires { ⌜ count ≤ tableLength ⌝ }
+    ensures { λ r. ⌜ r ≡ indexAfter count index ⌝ }
+{
+    let low = fields::bits(index, 8, 0);
+    index - low + (low + count as u32) % 512
+}
+
+// Stores a table load's data, from its word 3 on, from where the index points on.
+fn store_data(table: &mut [u32; TABLE], ring: &[u32], read: usize, index: u32, count: usize)
+    requires { ⌜ (read < length (now ring)) × (ringLeast ≤ length (now ring)) × (count ≤ tableLength) ⌝ }
+    ensures { λ r. ⌜ now (table .exit) ≡ dataStored (now (ring .entry)) read 3 count index (now (table .entry)) ⌝ }
+{
+    let size = ring.len();
+    let end = 3 + count;
+    let mut from = ahead(size, read, 3);
+    let mut to = fields::number(index, 8, 0);
+    let mut i = 3;
+    while i < end {
+        table[to] = ring[from];
+        from = ahead(size, from, 1);
+        to = ahead(TABLE, to, 1);
+        i += 1;
+    }
+}
+
+// Loads the table load at the read pointer: its data go into the table. Answers the registers as they are after it.
+pub fn load_table(
+    registers: [u32; REGISTERS],
+    table: &mut [u32; TABLE],
+    ring: &[u32],
+    read: usize,
+    header: u32,
+    count: usize,
+) -> [u32; REGISTERS]
+    requires { ⌜ (kindOf header ≡ TableKind) × (count ≡ dataCount (countWord (now ring) read)) × (count ≤ tableLength) × (read < length (now ring)) × (ringLeast ≤ length (now ring)) ⌝ }
+    ensures registers { λ r. ⌜ r ≡ loaded (now (ring .entry)) read header registers ⌝ }
+    ensures table { λ r. ⌜ now (table .exit) ≡ loadedTable (now (ring .entry)) read header registers (now (table .entry)) ⌝ }
+{
+    let mut out = load_words(registers, ring, read, header);
+    let index = out[LUT_INDEX];
+    store_data(table, ring, read, index, count);
+    out[LUT_INDEX] = index_after(index, count);
+    out
 }

@@ -6,43 +6,51 @@ use Rattle.command.proofs.drawn_by.Tie as tie
 kind-of-requires : tie.Need-kind-of-requires
 kind-of-requires c κs = search needs
 
-primitive-of-requires : tie.Need-primitive-of-requires
-primitive-of-requires c κs = search needs
-
-word-count-requires : tie.Need-word-count-requires
-word-count-requires c κs = search needs
-
-sub-last : tie.Need-sub-last
-sub-last c = search needs
-
-cast-is-set : tie.Need-cast-is-set
-cast-is-set c = search needs
+enum-told : tie.Need-enum-told
+enum-told c = search needs
 
 is-set-requires : tie.Need-is-set-requires
 is-set-requires c κs = search needs
 
+drawn-if-requires : tie.Need-drawn-if-requires
+drawn-if-requires c κs = search needs
+
+enum-told-2 : tie.Need-enum-told-2
+enum-told-2 c = search needs
+
+is-set-requires-2 : tie.Need-is-set-requires-2
+is-set-requires-2 c κs = search needs
+
+drawn-if-requires-2 : tie.Need-drawn-if-requires-2
+drawn-if-requires-2 c κs = search needs
+
+enum-told-3 : tie.Need-enum-told-3
+enum-told-3 c = search needs
+
 returns : tie.Need-returns
 unfolding drawnBy
-returns c =
-    simp (
-      ← c .before .before .before .before .kind-of .ensures,
-      ← c .before .before .word-count .ensures .0,
-      ← c .before .is-set .ensures,
-      ← c .before .before .before .primitive-of .ensures,
-      c .if1 .taken,
-    )
+returns c = simp (← c .before .before .before .before .kind-of .ensures, c .before .before .enum-told .given .1, ← c .before .is-set .ensures) (c .drawn-if .ensures)
 
 returns-2 : tie.Need-returns-2
 unfolding drawnBy
-returns-2 c =
-    simp (
-      ← c .before .before .before .before .kind-of .ensures,
-      ← c .before .before .word-count .ensures .0,
-      ← c .before .is-set .ensures,
-      c .if1 .left,
-    )
+returns-2 c = simp (← c .before .before .before .before .kind-of .ensures, c .before .before .enum-told2 .given .1, ← c .before .is-set2 .ensures) (c .drawn-if2 .ensures)
+
+returns-3 : tie.Need-returns-3
+unfolding drawnBy
+returns-3 c = simp (← c .before .before .kind-of .ensures, c .enum-told3 .given .1)
 
 pub drawn-by-spec : {M : Type 1} → statement M
 drawn-by-spec =
     tie.close
-    (tie.spec kind-of-requires primitive-of-requires word-count-requires sub-last cast-is-set is-set-requires returns returns-2)
+    (tie.spec
+    kind-of-requires
+    enum-told
+    is-set-requires
+    drawn-if-requires
+    enum-told-2
+    is-set-requires-2
+    drawn-if-requires-2
+    enum-told-3
+    returns
+    returns-2
+    returns-3)

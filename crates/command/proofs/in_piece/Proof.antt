@@ -17,11 +17,18 @@ sub-result c = search needs
 enum-told-2 : tie.Need-enum-told-2
 enum-told-2 c = search needs
 
+enum-told-3 : tie.Need-enum-told-3
+enum-told-3 c = search needs
+
 returns : tie.Need-returns
 returns c = λ e. (c .enum-told .given .1, let l = leb-true 17 (c .before .before .args .size - c .before .before .args .read) e in omega arith)
 
 returns-2 : tie.Need-returns-2
 returns-2 c = λ e. absurd (not-both false e refl)
 
+returns-3 : tie.Need-returns-3
+returns-3 c = λ e. absurd (not-both false e refl)
+
 pub in-piece-spec : {M : Type 1} → statement M
-in-piece-spec = tie.close (tie.spec enum-told sub-result enum-told-2 returns returns-2)
+in-piece-spec =
+    tie.close (tie.spec enum-told sub-result enum-told-2 enum-told-3 returns returns-2 returns-3)

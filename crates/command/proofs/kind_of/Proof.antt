@@ -13,7 +13,11 @@ returns c = simp (← c .before .bits .ensures .0, c .match .keys1)
 
 returns-2 : tie.Need-returns-2
 unfolding kindOf
-returns-2 c = simp (← c .before .bits .ensures .0, ne-eqb _ _ (c .match .rest .1))
+returns-2 c = simp (← c .before .bits .ensures .0, c .match .keys2)
+
+returns-3 : tie.Need-returns-3
+unfolding kindOf
+returns-3 c = simp (← c .before .bits .ensures .0, ne-eqb _ _ (c .match .rest .0 .1), ne-eqb _ _ (c .match .rest .1))
 
 pub kind-of-spec : {M : Type 1} → statement M
-kind-of-spec = tie.close (tie.spec bits-requires returns returns-2)
+kind-of-spec = tie.close (tie.spec bits-requires returns returns-2 returns-3)

@@ -1,7 +1,7 @@
 use mathlib.Core.Path.{sym, _∙_}
 use native.Mathlib.Omega.{arith}
 use denote.Ref.{now}
-use Rattle.command.proofs.Loads.{piece-length, piece-words}
+use Rattle.command.proofs.Loads.{plain-loaded, piece-length, piece-words}
 use borrow.Author.Needs.{needs}
 use Rattle.command.proofs.load.Statement.{statement}
 use Rattle.command.proofs.load.Tie as tie
@@ -32,17 +32,18 @@ part-load-piece-end c = omega (arith, c .before .in-piece .ensures (c .if1 .take
 
 load-piece-requires : tie.Need-load-piece-requires
 load-piece-requires c κs =
-    let p = c .before .before .in-piece .ensures (c .before .if1 .taken) in (piece-length (now (c .before .before .before .before .before .args .ring)) (c .before .before .before .before .before .args .read) (p .1), sym (c .before .before .before .kind-of .ensures) ∙ p .0)
+    let p = c .before .before .in-piece .ensures (c .before .if1 .taken) in (piece-length 16 (now (c .before .before .before .before .before .args .ring)) (c .before .before .before .before .before .args .read) (p .1), sym (c .before .before .before .kind-of .ensures) ∙ p .0)
 
 returns : tie.Need-returns
 returns c =
-    c .load-piece .ensures (now (c .before .before .before .before .before .before .args .ring)) (c .before .before .before .before .before .before .args .read) (piece-words (now (c .before .before .before .before .before .before .args .ring)) (c .before .before .before .before .before .before .args .read) (c .before .before .before .in-piece .ensures (c .before .before .if1 .taken) .1))
+    c .load-piece .ensures (now (c .before .before .before .before .before .before .args .ring)) (c .before .before .before .before .before .before .args .read) (piece-words 16 (now (c .before .before .before .before .before .before .args .ring)) (c .before .before .before .before .before .before .args .read) (c .before .before .before .in-piece .ensures (c .before .before .if1 .taken) .1))
 
 load-words-requires : tie.Need-load-words-requires
 load-words-requires c κs = search needs
 
 returns-2 : tie.Need-returns-2
-returns-2 c = search needs
+returns-2 c =
+    let a = c .before .before .before .before .before .args in c .load-words .ensures ∙ sym (plain-loaded (now (a .ring)) (a .read) (a .header) (a .registers) (c .before .before .before .before .before .pre .0))
 
 pub load-spec : {M : Type 1} → statement M
 load-spec =

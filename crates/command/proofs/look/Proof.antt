@@ -1,101 +1,105 @@
-use Rattle.command.specs.Look.{look}
-use borrow.Author.Tests.{eq-eqb, le-leb, lt-leb, ne-eqb}
-use native.Mathlib.Omega.{arith}
+use mathlib.Core.Path.{sym, _∙_}
+use Rattle.command.specs.Look.{look-bad, look-table, look-blt, look-vector}
 use borrow.Author.Needs.{needs}
 use Rattle.command.proofs.look.Statement.{statement}
 use Rattle.command.proofs.look.Tie as tie
+use Rattle.command.proofs.look.Reads as reads
+use Rattle.command.proofs.look.Lts as lts
+use Rattle.command.proofs.bad_header.Reads as bad-header-reads
+use Rattle.command.proofs.drawn_by.Reads as drawn-by-reads
+use Rattle.command.proofs.kind_of.Reads as kind-of-reads
+use Rattle.command.proofs.look_plain.Reads as look-plain-reads
+use Rattle.command.proofs.look_table.Reads as look-table-reads
+use Rattle.command.proofs.refused.Reads as refused-reads
+use Rattle.command.proofs.returns.Reads as returns-reads
+use Rattle.ring.proofs.waiting_words.Reads as waiting-words-reads
 
+-- src/lib.rt:312:9
 waiting-words-requires : tie.Need-waiting-words-requires
 waiting-words-requires c κs = search needs
 
-kind-of-requires : tie.Need-kind-of-requires
-kind-of-requires c κs = search needs
+-- src/lib.rt:313:9
+bad-header-requires : tie.Need-bad-header-requires
+bad-header-requires c κs = search needs
 
-length-of-requires : tie.Need-length-of-requires
-length-of-requires c κs = search needs
+-- src/lib.rt:315:9
+refused-requires : tie.Need-refused-requires
+refused-requires c κs = search needs
 
+-- src/lib.rt:315:9
+returns : tie.Need-returns
+returns c = rw (c .before .before .before .waiting-words .ensures .0) at (c .refused .ensures) ∙ sym (look-bad (c .before .before .before .before .args .size) (c .before .before .before .before .args .read) (c .before .before .before .before .args .write) (c .before .before .before .before .args .header) (c .before .before .before .before .args .counted) (sym (c .before .before .bad-header .ensures) ∙ c .before .if1 .taken))
+
+-- src/lib.rt:317:9
 returns-requires : tie.Need-returns-requires
 returns-requires c κs = search needs
 
-header-refusal-requires : tie.Need-header-refusal-requires
-header-refusal-requires c κs = search needs
+-- src/lib.rt:318:11
+kind-of-requires : tie.Need-kind-of-requires
+kind-of-requires c κs = search needs
 
-whole-words-requires : tie.Need-whole-words-requires
-whole-words-requires c κs = search needs
+-- src/lib.rt:319:59
+enum-told : tie.Need-enum-told
+enum-told c = search needs
 
+-- src/lib.rt:319:59
 drawn-by-requires : tie.Need-drawn-by-requires
 drawn-by-requires c κs = search needs
 
-read-after-requires : tie.Need-read-after-requires
-read-after-requires c κs = search needs
+-- src/lib.rt:319:22
+look-plain-requires : tie.Need-look-plain-requires
+look-plain-requires c κs = search needs
 
-returns : tie.Need-returns
-unfolding look
-returns c =
-    rw (
-      ← c .before .before .before .before .before .before .before .before .kind-of .ensures,
-      ← c .before .before .before .before .before .before .before .length-of .ensures .0,
-      ← c .before .before .before .before .before .header-refusal .ensures,
-      eq-eqb _ _ (c .before .before .before .before .if1 .taken),
-      ← c .before .before .before .before .before .before .returns .ensures,
-      ← c .before .before .before .whole-words .ensures,
-      ← c .before .before .before .before .before .before .before .before .before .waiting-words .ensures .0,
-      le-leb _ _ (c .before .before .if2 .taken),
-      ← c .before .drawn-by .ensures,
-      ← c .read-after .ensures,
-    )
+-- src/lib.rt:320:62
+enum-told-2 : tie.Need-enum-told-2
+enum-told-2 c = search needs
 
+-- src/lib.rt:320:62
+drawn-by-requires-2 : tie.Need-drawn-by-requires-2
+drawn-by-requires-2 c κs = search needs
+
+-- src/lib.rt:320:25
+look-plain-requires-2 : tie.Need-look-plain-requires-2
+look-plain-requires-2 c κs = search needs
+
+-- src/lib.rt:321:24
+enum-told-3 : tie.Need-enum-told-3
+enum-told-3 c = search needs
+
+-- src/lib.rt:321:24
+look-table-requires : tie.Need-look-table-requires
+look-table-requires c κs = search needs
+
+-- src/lib.rt:308:1
 returns-2 : tie.Need-returns-2
-unfolding look
-returns-2 c =
-    rw (
-      ← c .before .before .before .before .before .before .kind-of .ensures,
-      ← c .before .before .before .before .before .length-of .ensures .0,
-      ← c .before .before .before .header-refusal .ensures,
-      eq-eqb _ _ (c .before .before .if1 .taken),
-      ← c .before .before .before .before .returns .ensures,
-      ← c .before .whole-words .ensures,
-      ← c .before .before .before .before .before .before .before .waiting-words .ensures .0,
-      lt-leb _ _ (c .if2 .left),
-    )
+returns-2 c = rw (c .before .before .before .before .before .before .before .before .waiting-words .ensures .0, c .before .before .before .before .before .returns .ensures, c .before .drawn-by .ensures) at (c .look-plain .ensures) ∙ sym (look-blt (c .before .before .before .before .before .before .before .before .before .args .size) (c .before .before .before .before .before .before .before .before .before .args .read) (c .before .before .before .before .before .before .before .before .before .args .write) (c .before .before .before .before .before .before .before .before .before .args .header) (c .before .before .before .before .before .before .before .before .before .args .counted) (sym (c .before .before .before .before .before .before .before .bad-header .ensures) ∙ c .before .before .before .before .before .before .if1 .left) (sym (c .before .before .before .before .kind-of .ensures) ∙ c .before .before .enum-told .given .1))
 
+-- src/lib.rt:308:1
 returns-3 : tie.Need-returns-3
-unfolding look
-returns-3 c =
-    rw (
-      ← c .before .before .before .before .before .kind-of .ensures,
-      ← c .before .before .before .before .length-of .ensures .0,
-      ← c .before .before .header-refusal .ensures,
-      ne-eqb _ _ (c .before .if1 .left),
-      ← c .before .before .before .before .before .before .waiting-words .ensures .0,
-      le-leb 1 (c .before .before .before .before .before .before .waiting-words .result) (omega arith),
-    )
+returns-3 c = rw (c .before .before .before .before .before .before .before .before .waiting-words .ensures .0, c .before .before .before .before .before .returns .ensures, c .before .drawn-by2 .ensures) at (c .look-plain2 .ensures) ∙ sym (look-vector (c .before .before .before .before .before .before .before .before .before .args .size) (c .before .before .before .before .before .before .before .before .before .args .read) (c .before .before .before .before .before .before .before .before .before .args .write) (c .before .before .before .before .before .before .before .before .before .args .header) (c .before .before .before .before .before .before .before .before .before .args .counted) (sym (c .before .before .before .before .before .before .before .bad-header .ensures) ∙ c .before .before .before .before .before .before .if1 .left) (sym (c .before .before .before .before .kind-of .ensures) ∙ c .before .before .enum-told2 .given .1))
 
+-- src/lib.rt:308:1
 returns-4 : tie.Need-returns-4
-unfolding look
-returns-4 c =
-    rw (
-      ← c .before .before .before .before .before .kind-of .ensures,
-      ← c .before .before .before .before .length-of .ensures .0,
-      ← c .before .before .header-refusal .ensures,
-      ne-eqb _ _ (c .before .if1 .left),
-      ← c .before .before .before .before .before .before .waiting-words .ensures .0,
-      lt-leb 1 (c .before .before .before .before .before .before .waiting-words .result) (omega arith),
-    )
+returns-4 c = rw (c .before .before .before .before .before .before .before .waiting-words .ensures .0, c .before .before .before .before .returns .ensures) at (c .look-table .ensures) ∙ sym (look-table (c .before .before .before .before .before .before .before .before .args .size) (c .before .before .before .before .before .before .before .before .args .read) (c .before .before .before .before .before .before .before .before .args .write) (c .before .before .before .before .before .before .before .before .args .header) (c .before .before .before .before .before .before .before .before .args .counted) (sym (c .before .before .before .before .before .before .bad-header .ensures) ∙ c .before .before .before .before .before .if1 .left) (sym (c .before .before .before .kind-of .ensures) ∙ c .before .enum-told3 .given .1))
 
 pub look-spec : {M : Type 1} → statement M
 look-spec =
     tie.close
     (tie.spec
     waiting-words-requires
-    kind-of-requires
-    length-of-requires
-    returns-requires
-    header-refusal-requires
-    whole-words-requires
-    drawn-by-requires
-    read-after-requires
+    bad-header-requires
+    refused-requires
     returns
+    returns-requires
+    kind-of-requires
+    enum-told
+    drawn-by-requires
+    look-plain-requires
+    enum-told-2
+    drawn-by-requires-2
+    look-plain-requires-2
+    enum-told-3
+    look-table-requires
     returns-2
     returns-3
     returns-4)
