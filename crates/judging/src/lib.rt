@@ -1,7 +1,7 @@
 // Refusals 23 to 28 of what a command draws, on the registers as they would be after loading.
 ghost use mathlib.Core.Path.{_≡_};
 ghost use Rattle.model.specs.BltPixel.{sourceOutside};
-ghost use Rattle.model.specs.Judging.{refusedFormat, row23, row24Both, sourceBits, monoBack, row24Source, row24, row25, judge};
+ghost use Rattle.model.specs.Judging.{refusedFormat, row23, row24Both, channel3Further, row24Channel3, sourceBits, monoBack, row24Source, row24, row25, judge};
 ghost use Rattle.model.specs.declared.Primitive.the-variants.{Blt as BltPrimitive, Vector as VectorPrimitive};
 ghost use Rattle.laws.specs.Ranges.{RangedSource};
 ghost use Rattle.laws.specs.Some.{isOutside};
@@ -42,7 +42,7 @@ fn bad_format(registers: [u32; REGISTERS]) -> bool
 
 // ---- 24
 
-// Of BLTs and vectors: pattern inversion, channel 3, a base offset.
+// Of BLTs and vectors: pattern inversion, a base offset.
 fn bad_bits(registers: [u32; REGISTERS]) -> bool
     ensures { λ r. ⌜ r ≡ row24Both registers ⌝ }
 {
@@ -50,12 +50,57 @@ fn bad_bits(registers: [u32; REGISTERS]) -> bool
     if pattern {
         return true;
     }
-    let channel3 = fields::is_set(registers[CH3_MODE_STR], 31);
-    if channel3 {
-        return true;
-    }
     let base = registers[BASE_OFFSET];
     base != 0
+}
+
+// Further mode bits of channel 3, but X and Y.
+fn has_further_bits(registers: [u32; REGISTERS]) -> bool
+    ensures { λ r. ⌜ r ≡ channel3Further registers ⌝ }
+{
+    let mode = registers[CH3_MODE_STR];
+    let rotated = fields::is_set(mode, 23);
+    if rotated {
+        return true;
+    }
+    let bgr = fields::is_set(mode, 22);
+    if bgr {
+        return true;
+    }
+    let preserved = fields::is_set(mode, 20);
+    if preserved {
+        return true;
+    }
+    let prefetched = fields::is_set(mode, 19);
+    if prefetched {
+        return true;
+    }
+    fields::is_set(mode, 18)
+}
+
+// Of a BLT's channel 3: enabled without pattern mode, steered to the source, in another format than RASTER_MODE's, or with further
+// mode bits.
+fn bad_channel3(registers: [u32; REGISTERS]) -> bool
+    ensures { λ r. ⌜ r ≡ row24Channel3 registers ⌝ }
+{
+    let mode = registers[CH3_MODE_STR];
+    let enabled = fields::is_set(mode, 31);
+    if !enabled {
+        return false;
+    }
+    let pattern = fields::is_set(mode, 21);
+    if !pattern {
+        return true;
+    }
+    let source = fields::is_set(mode, 30);
+    if source {
+        return true;
+    }
+    let raster = registers[RASTER_MODE];
+    if fields::bits(mode, 27, 24) != fields::bits(raster, 31, 28) {
+        return true;
+    }
+    has_further_bits(registers)
 }
 
 // Source transparency or source inversion.
@@ -107,7 +152,7 @@ fn bad_source(registers: [u32; REGISTERS]) -> bool
     has_source_bits(registers)
 }
 
-// Of a BLT: a source or pattern mode that is not carried, a bad source, or one of the bits for both.
+// Of a BLT: a source or pattern mode that is not carried, a bad source, a bad channel 3, or one of the bits for both.
 fn bad_blt_modes(registers: [u32; REGISTERS]) -> bool
     ensures { λ r. ⌜ r ≡ row24 registers BltPrimitive ⌝ }
 {
@@ -122,17 +167,21 @@ fn bad_blt_modes(registers: [u32; REGISTERS]) -> bool
         return true;
     }
     let pattern = fields::bits(raster, 9, 8);
-    if 0b01 < pattern {
+    if pattern == 0b11 {
         return true;
     }
     let source = bad_source(registers);
     if source {
         return true;
     }
+    let channel3 = bad_channel3(registers);
+    if channel3 {
+        return true;
+    }
     bad_bits(registers)
 }
 
-// Of a vector: a pattern that is not solid, source transparency or inversion, or one of the bits for both.
+// Of a vector: a pattern that is not solid, source transparency or inversion, channel 3, or one of the bits for both.
 fn bad_vector_modes(registers: [u32; REGISTERS]) -> bool
     ensures { λ r. ⌜ r ≡ row24 registers VectorPrimitive ⌝ }
 {
@@ -143,6 +192,10 @@ fn bad_vector_modes(registers: [u32; REGISTERS]) -> bool
     }
     let source = has_source_bits(registers);
     if source {
+        return true;
+    }
+    let channel3 = fields::is_set(registers[CH3_MODE_STR], 31);
+    if channel3 {
         return true;
     }
     bad_bits(registers)

@@ -1,6 +1,6 @@
 use mathlib.Core.Path.{sym, _∙_}
-use Rattle.model.specs.Choice.{or-left, or-right}
-use Rattle.model.specs.Registers.{patternInversion, channel3Enable}
+use Rattle.model.specs.Choice.{or-left}
+use Rattle.model.specs.Registers.{patternInversion}
 use borrow.Author.Needs.{needs}
 use Rattle.judging.proofs.bad_bits.Statement.{statement}
 use Rattle.judging.proofs.bad_bits.Tie as tie
@@ -12,32 +12,14 @@ is-set-requires : tie.Need-is-set-requires
 is-set-requires c κs = search needs
 
 returns : tie.Need-returns
-returns c = sym (or-left _ _ (or-left (patternInversion (c .before .before .args .t1)) _ (sym (c .before .is-set .ensures) ∙ c .if1 .taken)))
-
-array-read-is-set-2 : tie.Need-array-read-is-set-2
-array-read-is-set-2 c = search needs
-
-is-set-requires-2 : tie.Need-is-set-requires-2
-is-set-requires-2 c κs = search needs
-
-returns-2 : tie.Need-returns-2
-returns-2 c = let r = c .before .before .before .before .args .t1 in sym (or-left _ _ (or-right (patternInversion r) (channel3Enable r) (sym (c .before .is-set2 .ensures) ∙ c .if2 .taken)))
+returns c = sym (or-left (patternInversion (c .before .before .args .t1)) _ (sym (c .before .is-set .ensures) ∙ c .if1 .taken))
 
 array-read-base : tie.Need-array-read-base
 array-read-base c = search needs
 
-returns-3 : tie.Need-returns-3
-returns-3 c = rw (sym (c .before .before .before .is-set .ensures) ∙ c .before .before .if1 .left, sym (c .before .is-set2 .ensures) ∙ c .if2 .left)
+returns-2 : tie.Need-returns-2
+returns-2 c = rw (sym (c .before .is-set .ensures) ∙ c .if1 .left)
 
 pub bad-bits-spec : {M : Type 1} → statement M
 bad-bits-spec =
-    tie.close
-    (tie.spec
-    array-read-is-set
-    is-set-requires
-    returns
-    array-read-is-set-2
-    is-set-requires-2
-    returns-2
-    array-read-base
-    returns-3)
+    tie.close (tie.spec array-read-is-set is-set-requires returns array-read-base returns-2)

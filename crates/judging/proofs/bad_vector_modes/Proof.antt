@@ -19,11 +19,20 @@ has-source-bits-requires c κs = search needs
 returns-2 : tie.Need-returns-2
 returns-2 c = rw (← c .before .before .before .bits .ensures .0, eq-eqb _ _ (c .before .before .if1 .left), sym (c .before .has-source-bits .ensures) ∙ c .if2 .taken)
 
+array-read-is-set : tie.Need-array-read-is-set
+array-read-is-set c = search needs
+
+is-set-requires : tie.Need-is-set-requires
+is-set-requires c κs = search needs
+
+returns-3 : tie.Need-returns-3
+returns-3 c = rw (← c .before .before .before .before .before .bits .ensures .0, eq-eqb _ _ (c .before .before .before .before .if1 .left), sym (c .before .before .before .has-source-bits .ensures) ∙ c .before .before .if2 .left, sym (c .before .is-set .ensures) ∙ c .if3 .taken)
+
 bad-bits-requires : tie.Need-bad-bits-requires
 bad-bits-requires c κs = search needs
 
-returns-3 : tie.Need-returns-3
-returns-3 c = rw (← c .before .before .before .before .bits .ensures .0, eq-eqb _ _ (c .before .before .before .if1 .left), sym (c .before .before .has-source-bits .ensures) ∙ c .before .if2 .left) (c .bad-bits .ensures)
+returns-4 : tie.Need-returns-4
+returns-4 c = rw (← c .before .before .before .before .before .before .bits .ensures .0, eq-eqb _ _ (c .before .before .before .before .before .if1 .left), sym (c .before .before .before .before .has-source-bits .ensures) ∙ c .before .before .before .if2 .left, sym (c .before .before .is-set .ensures) ∙ c .before .if3 .left) (c .bad-bits .ensures)
 
 pub bad-vector-modes-spec : {M : Type 1} → statement M
 bad-vector-modes-spec =
@@ -34,5 +43,8 @@ bad-vector-modes-spec =
     returns
     has-source-bits-requires
     returns-2
+    array-read-is-set
+    is-set-requires
+    returns-3
     bad-bits-requires
-    returns-3)
+    returns-4)
