@@ -10,6 +10,7 @@ ghost use Rattle.laws.specs.Order.{bltPixels};
 ghost use Rattle.laws.specs.Rows.{Band, Part};
 ghost use Rattle.laws.specs.Plain.{Plain, Served};
 ghost use Rattle.laws.specs.Moves.{isFull};
+ghost use Rattle.laws.specs.Tiles.{tilePixels};
 use model::Blt;
 use model::MonoPattern;
 use model::MonoSource;
@@ -204,6 +205,56 @@ pub fn general(f: &mut [u8], b: Blt, k: usize, n: usize)
     while w.drawn < n {
         let c = part(w, width, n);
         rows::general(f, b, w.column, w.row, c);
+        w = on(w, c);
+    }
+}
+
+// ---- colour patterns
+
+// Raster operation F0h, where one value serves as the source.
+pub fn tile_fill(
+    f: &mut [u8],
+    b: Blt,
+    tile: &[[u32; 8]; 8],
+    row: usize,
+    column: usize,
+    k: usize,
+    n: usize,
+)
+    requires { ⌜ (Band (length (now f)) b k n) × (row < 8) × (column < 8) × (b .code ≡ 240) × (Served (b .code) (b .source)) ⌝ }
+    ensures { λ _. ⌜ now (f .exit) ≡ tilePixels (now (tile .entry)) row column b k n (now (f .entry)) ⌝ }
+{
+    let d = b.destination;
+    let columns = d.columns;
+    let width = columns.count;
+    let mut w = begin(k, width);
+    while w.drawn < n {
+        let c = part(w, width, n);
+        tiles::fill(f, b, tile, row, column, w.column, w.row, c);
+        w = on(w, c);
+    }
+}
+
+// Any raster operation and source.
+pub fn tile_general(
+    f: &mut [u8],
+    b: Blt,
+    tile: &[[u32; 8]; 8],
+    row: usize,
+    column: usize,
+    k: usize,
+    n: usize,
+)
+    requires { ⌜ (Band (length (now f)) b k n) × (row < 8) × (column < 8) ⌝ }
+    ensures { λ _. ⌜ now (f .exit) ≡ tilePixels (now (tile .entry)) row column b k n (now (f .entry)) ⌝ }
+{
+    let d = b.destination;
+    let columns = d.columns;
+    let width = columns.count;
+    let mut w = begin(k, width);
+    while w.drawn < n {
+        let c = part(w, width, n);
+        tiles::general(f, b, tile, row, column, w.column, w.row, c);
         w = on(w, c);
     }
 }

@@ -8,7 +8,7 @@ ghost use Rattle.model.specs.Rectangle.{pixelByte};
 ghost use Rattle.model.specs.declared.Pattern.the-variants.{Solid};
 ghost use Rattle.model.specs.declared.Source.the-variants.{Bits};
 ghost use Rattle.laws.specs.Rows.{Row, rowPixels};
-ghost use Rattle.laws.specs.Plain.{wholeEights};
+ghost use Rattle.laws.specs.Eights.{wholeEights};
 ghost use Rattle.laws.specs.Glyphs.{Inked, Window, Apart, Windowed};
 use model::Blt;
 use model::MonoSource;

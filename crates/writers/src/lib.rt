@@ -7,7 +7,8 @@ ghost use Rattle.model.specs.Formats.{Depth};
 ghost use Rattle.laws.specs.Order.{inOrder};
 ghost use Rattle.laws.specs.Whole.{blended};
 ghost use Rattle.laws.specs.Changes.{changedAt, changedRow};
-ghost use Rattle.laws.specs.Plain.{picked, markRule, Narrow, wholeEights};
+ghost use Rattle.laws.specs.Eights.{wholeEights};
+ghost use Rattle.laws.specs.Plain.{picked, markRule, Narrow};
 use pixel::Blend;
 
 // ---- one value

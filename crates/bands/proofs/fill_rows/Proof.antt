@@ -1,12 +1,13 @@
 use Prim.Native.Nat.{_-_}
 use native.Mathlib.Omega.{arith}
+use Rattle.model.specs.BltPixel.{drawBlt}
 use Rattle.laws.specs.Order.{remain-none}
 use Rattle.laws.specs.Rows.{ByRows, rows-all, rows-part, rows-next, rows-on}
 use Rattle.bands.proofs.fill_rows.Statement.{statement}
 use Rattle.bands.proofs.fill_rows.Tie as tie
 
 abbrev Inv-loop : tie.InvT-loop
-Inv-loop f₀ b color k n width w₀ f w = ByRows b k n f₀ (w .column) (w .row) (w .drawn) f
+Inv-loop f₀ b color k n width w₀ f w = ByRows (drawBlt b) b k n f₀ (w .column) (w .row) (w .drawn) f
 
 abbrev μ-loop : tie.MeasureT-loop
 μ-loop f₀ b color k n width w₀ f w = n - w .drawn

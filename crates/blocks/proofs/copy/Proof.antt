@@ -1,6 +1,7 @@
 use Prim.Native.Nat.{_-_}
 use native.Mathlib.Omega.{arith}
 use borrow.Author.Tests.{not-false}
+use Rattle.model.specs.BltPixel.{drawBlt}
 use Rattle.laws.specs.Order.{remain-all}
 use Rattle.laws.specs.Rows.{ByRows}
 use Rattle.laws.specs.Lows.{destination-span, source-span, low-asked, on-asked}
@@ -11,7 +12,7 @@ use Rattle.blocks.proofs.copy.Tie as tie
 
 abbrev Inv-loop : tie.InvT-loop
 Inv-loop f₀ b s k n d width j₀ from₀ to₀ m₀ f j from to m =
-    (ByRows b k n f₀ 0 j m f) × (Begins b s (n - m) j from) × (Begins b (b .destination) (n - m) j to) × (Freely b (n - m) from to)
+    (ByRows (drawBlt b) b k n f₀ 0 j m f) × (Begins b s (n - m) j from) × (Begins b (b .destination) (n - m) j to) × (Freely b (n - m) from to)
 
 abbrev μ-loop : tie.MeasureT-loop
 μ-loop f₀ b s k n d width j₀ from₀ to₀ m₀ f j from to m = n - m

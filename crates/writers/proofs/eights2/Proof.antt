@@ -3,7 +3,8 @@ use mathlib.Core.Path.{_≡_}
 use native.Mathlib.Omega.{arith}
 use Rattle.laws.specs.Order.{Remain, remain-all, remain-none}
 use Rattle.laws.specs.Changes.{changedAt}
-use Rattle.laws.specs.Plain.{markRule, wholeEights, chunk-next}
+use Rattle.laws.specs.Eights.{wholeEights, chunk-next}
+use Rattle.laws.specs.Plain.{markRule, mark-round}
 use Rattle.writers.proofs.eights2.Statement.{statement}
 use Rattle.writers.proofs.eights2.Tie as tie
 
@@ -35,7 +36,7 @@ loop-less c = omega arith
 loop-again : tie.Need-loop-again Inv-loop μ-loop
 loop-again c = (
   omega (arith, c .before .before .before .before .before .loop .inv .0),
-  chunk-next 2 (c .before .before .before .before .before .before .before .args .bits) (c .before .before .before .before .before .before .before .args .set .flip) (c .before .before .before .before .before .before .before .args .set .keep) (c .before .before .before .before .before .before .before .args .clear .flip) (c .before .before .before .before .before .before .before .args .clear .keep) 0 8 {at = c .before .before .before .before .before .loop .i * 2} (c .before .before .before .before .before .loop .inv .1)
+  chunk-next 2 (mark-round (c .before .before .before .before .before .before .before .args .bits) (c .before .before .before .before .before .before .before .args .set .flip) (c .before .before .before .before .before .before .before .args .set .keep) (c .before .before .before .before .before .before .before .args .clear .flip) (c .before .before .before .before .before .before .before .args .clear .keep)) 0 8 {at = c .before .before .before .before .before .loop .i * 2} (c .before .before .before .before .before .loop .inv .1)
       (omega (arith, c .before .before .before .before .before .loop .inv .0, c .before .before .before .before .loop-test .taken)) (omega (arith, c .before .before .before .before .before .loop .inv .0)) (omega arith) (c .before .before .eight2 .ensures),
 )
 

@@ -4,7 +4,8 @@ use native.Mathlib.Omega.{arith}
 use lib.ListN.{length}
 use Rattle.laws.specs.Order.{Remain, remain-all, remain-none}
 use Rattle.laws.specs.Changes.{changedAt}
-use Rattle.laws.specs.Plain.{markRule, wholeEights, chunk-next}
+use Rattle.laws.specs.Eights.{wholeEights, chunk-next}
+use Rattle.laws.specs.Plain.{markRule, mark-round}
 use Rattle.writers.proofs.more_eights.Statement.{statement}
 use Rattle.writers.proofs.more_eights.Tie as tie
 
@@ -40,7 +41,7 @@ loop-less c = omega arith
 loop-again : tie.Need-loop-again Inv-loop μ-loop
 loop-again c = (
   omega (arith, c .before .before .before .before .before .loop .inv .0),
-  chunk-next 1 (c .before .before .before .before .before .before .before .args .bits) (c .before .before .before .before .before .before .before .args .set .flip) (c .before .before .before .before .before .before .before .args .set .keep) (c .before .before .before .before .before .before .before .args .clear .flip) (c .before .before .before .before .before .before .before .args .clear .keep) (c .before .before .before .before .before .before .before .args .k) 8 {at = c .before .before .before .before .before .before .before .args .k + c .before .before .before .before .before .loop .m} (c .before .before .before .before .before .loop .inv .1)
+  chunk-next 1 (mark-round (c .before .before .before .before .before .before .before .args .bits) (c .before .before .before .before .before .before .before .args .set .flip) (c .before .before .before .before .before .before .before .args .set .keep) (c .before .before .before .before .before .before .before .args .clear .flip) (c .before .before .before .before .before .before .before .args .clear .keep)) (c .before .before .before .before .before .before .before .args .k) 8 {at = c .before .before .before .before .before .before .before .args .k + c .before .before .before .before .before .loop .m} (c .before .before .before .before .before .loop .inv .1)
       (omega (arith, c .before .before .before .before .before .loop .inv .0, c .before .before .before .before .loop-test .taken, c .before .before .before .before .before .before .before .pre .0)) (omega (arith, c .before .before .before .before .before .loop .inv .0, c .before .before .before .before .before .before .before .pre .0)) (omega arith) (c .before .before .eight1 .ensures),
 )
 

@@ -4,7 +4,8 @@ use native.Mathlib.Omega.{arith}
 use lib.ListN.{length}
 use Rattle.laws.specs.Order.{Remain, remain-all, remain-none}
 use Rattle.laws.specs.Changes.{changedAt}
-use Rattle.laws.specs.Plain.{markRule, chunk-next}
+use Rattle.laws.specs.Eights.{chunk-next}
+use Rattle.laws.specs.Plain.{markRule, mark-round}
 use Rattle.writers.proofs.tiles.Statement.{statement}
 use Rattle.writers.proofs.tiles.Tie as tie
 
@@ -33,7 +34,7 @@ loop-less c = omega arith
 loop-again : tie.Need-loop-again Inv-loop μ-loop
 loop-again c = (
   omega (arith, c .before .before .before .before .before .loop .inv .0),
-  chunk-next 1 (c .before .before .before .before .before .before .before .args .bits) (c .before .before .before .before .before .before .before .args .set .flip) (c .before .before .before .before .before .before .before .args .set .keep) (c .before .before .before .before .before .before .before .args .clear .flip) (c .before .before .before .before .before .before .before .args .clear .keep) 0 32 {at = c .before .before .before .before .before .loop .i} (c .before .before .before .before .before .loop .inv .1)
+  chunk-next 1 (mark-round (c .before .before .before .before .before .before .before .args .bits) (c .before .before .before .before .before .before .before .args .set .flip) (c .before .before .before .before .before .before .before .args .set .keep) (c .before .before .before .before .before .before .before .args .clear .flip) (c .before .before .before .before .before .before .before .args .clear .keep)) 0 32 {at = c .before .before .before .before .before .loop .i} (c .before .before .before .before .before .loop .inv .1)
       (omega (arith, c .before .before .before .before .before .loop .inv .0, c .before .before .before .before .loop-test .taken)) (omega (arith, c .before .before .before .before .before .loop .inv .0)) (omega arith) (c .before .before .tile .ensures),
 )
 
