@@ -4,19 +4,24 @@ ghost use Prim.Native.Nat.{_+_, _-_, _≤_, _<_};
 ghost use lib.ListN.{length};
 ghost use Rattle.model.specs.Limits.{frameMost};
 ghost use Rattle.model.specs.Bits.{field};
-ghost use Rattle.model.specs.Registers.{registerCount, word};
+ghost use mathlib.Core.Bool.{_&&_};
+ghost use Rattle.model.specs.Choice.{_=?_};
+ghost use Rattle.model.specs.Registers.{registerCount, word, patternMode, channel3Enable, channel3PatternMode};
 ghost use Rattle.model.specs.Rectangle.{pixelsOf};
-ghost use Rattle.model.specs.BltPixel.{rectangleOf, monoMode, rowStride, bytesOf, monoSourceOf, patternOf, bltOf};
+ghost use Rattle.model.specs.BltPixel.{rectangleOf, monoMode, rowStride, bytesOf, monoSourceOf, patternOf, bltOf, withColor, drawTiled};
+ghost use Rattle.model.specs.declared.ColorPattern.the-variants.{Tile};
 ghost use Rattle.model.specs.declared.Pattern.the-variants.{Solid};
 ghost use Rattle.model.specs.declared.Source.the-variants.{Frame, Bits};
-ghost use Rattle.laws.specs.Order.{bltPixels};
+ghost use Rattle.laws.specs.Order.{inOrder, bltPixels};
 ghost use Rattle.laws.specs.Ranges.{FitBlt};
 ghost use Rattle.laws.specs.Rows.{Band};
 ghost use Rattle.laws.specs.Plain.{sourceless, isPlain, plainValue, Plain};
 ghost use Rattle.laws.specs.Moves.{isFull};
+ghost use Rattle.laws.specs.Tiles.{tilePixels};
 use model::Axis;
 use model::BLT_MODE;
 use model::Blt;
+use model::CH3_MODE_STR;
 use model::DST_OFFSET;
 use model::MonoPattern;
 use model::MonoSource;
@@ -33,6 +38,7 @@ use model::SRC_COLOR_FG;
 use model::SRC_OFFSET;
 use model::STRIDE;
 use model::Source;
+use model::TABLE;
 use model::WID_HEIGHT;
 
 // ---- the registers
@@ -185,6 +191,25 @@ fn pattern_of(registers: [u32; REGISTERS]) -> Pattern
     Pattern::Solid(registers[PAT_COLOR_0])
 }
 
+// Whether channel 3 gives the pattern.
+pub fn is_channel3(registers: [u32; REGISTERS]) -> bool
+    ensures { λ r. ⌜ r ≡ (channel3Enable registers && channel3PatternMode registers) ⌝ }
+{
+    let mode = registers[CH3_MODE_STR];
+    let enabled = fields::is_set(mode, 31);
+    if enabled {
+        return fields::is_set(mode, 21);
+    }
+    false
+}
+
+// Whether RASTER_MODE selects the colour pattern.
+pub fn is_tiled(registers: [u32; REGISTERS]) -> bool
+    ensures { λ r. ⌜ r ≡ patternMode registers =? 0b10 ⌝ }
+{
+    bits(registers, RASTER_MODE, 9, 8) == 0b10
+}
+
 // The BLT that the registers describe.
 pub fn blt_of(registers: [u32; REGISTERS]) -> Blt
     ensures { λ r. ⌜ r ≡ bltOf registers ⌝ }
@@ -193,6 +218,19 @@ pub fn blt_of(registers: [u32; REGISTERS]) -> Blt
         destination: destination_of(registers),
         source: source_of(registers),
         pattern: pattern_of(registers),
+        code: bits(registers, RASTER_MODE, 7, 0),
+    }
+}
+
+// The same with no pattern, for a tile to give its colours.
+fn plain_of(registers: [u32; REGISTERS]) -> Blt
+    ensures { λ r. ⌜ r ≡ withColor (bltOf registers) 0 ⌝ }
+{
+    let pattern = Pattern::Solid(0);
+    Blt {
+        destination: destination_of(registers),
+        source: source_of(registers),
+        pattern,
         code: bits(registers, RASTER_MODE, 7, 0),
     }
 }
@@ -330,4 +368,49 @@ pub fn draw(f: &mut [u8], b: Blt, k: usize, n: usize)
         Source::Frame(r) => draw_frame(f, b, r, k, n),
         Source::Bits(m) => draw_bits(f, b, m, k, n),
     }
+}
+
+// Draws n pixels with a colour pattern, from pixel k.
+fn draw_tile(
+    f: &mut [u8],
+    b: Blt,
+    tile: &[[u32; 8]; 8],
+    row: usize,
+    column: usize,
+    k: usize,
+    n: usize,
+)
+    requires { ⌜ (Band (length (now f)) b k n) × (row < 8) × (column < 8) ⌝ }
+    ensures { λ _. ⌜ now (f .exit) ≡ tilePixels (now (tile .entry)) row column b k n (now (f .entry)) ⌝ }
+{
+    if b.code == 0xF0 {
+        let s = b.source;
+        let plain = is_plain(b.code, s);
+        if plain {
+            bands::tile_fill(f, b, tile, row, column, k, n);
+            return;
+        }
+    }
+    bands::tile_general(f, b, tile, row, column, k, n);
+}
+
+// Draws n pixels with the tile that stands in the lookup table; `origin` is the offset register whose low bits say where in the tile
+// the first pixel lies. Called for either way to select it, so the compiler keeps it out of the way of other BLTs.
+pub fn draw_colors(
+    f: &mut [u8],
+    registers: [u32; REGISTERS],
+    table: &[u32; TABLE],
+    origin: u32,
+    k: usize,
+    n: usize,
+)
+    requires { ⌜ Band (length (now f)) (bltOf registers) k n ⌝ }
+    ensures { λ _. ⌜ now (f .exit) ≡ inOrder (drawTiled (Tile (field origin 31 29) (field origin 28 26)) (now (table .entry)) (bltOf registers)) k n (now (f .entry)) ⌝ }
+{
+    let b = plain_of(registers);
+    let d = b.destination;
+    let tile = tiles::tile_of(table, d.depth);
+    let row = fields::number(origin, 31, 29);
+    let column = fields::number(origin, 28, 26);
+    draw_tile(f, b, &tile, row, column, k, n);
 }

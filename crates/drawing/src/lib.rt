@@ -5,9 +5,13 @@ ghost use lib.ListN.{length};
 ghost use Rattle.model.specs.Limits.{frameMost, sideMost};
 ghost use Rattle.model.specs.Judging.{judge};
 ghost use Rattle.model.specs.Unit.{pixelCount};
+ghost use Rattle.model.specs.declared.Primitive.the-variants.{Blt as BltPrimitive};
 ghost use Rattle.laws.specs.Order.{pixels};
+use model::CH3_OFFSET;
+use model::DST_OFFSET;
 use model::Primitive;
 use model::REGISTERS;
+use model::TABLE;
 use model::WID_HEIGHT;
 
 // How many pixels it has.
@@ -22,13 +26,38 @@ pub fn pixel_count(primitive: Primitive, registers: [u32; REGISTERS]) -> usize
     }
 }
 
+// Draws n pixels of a BLT, from pixel k: with a colour pattern by channel 3 or by RASTER_MODE, or without one.
+fn draw_blt(frame: &mut [u8], registers: [u32; REGISTERS], table: &[u32; TABLE], k: usize, n: usize)
+    requires { ⌜ (judge BltPrimitive registers (length (now frame)) ≡ 0) × (k + n ≤ pixelCount BltPrimitive registers) × (length (now frame) ≤ frameMost) ⌝ }
+    ensures { λ _. ⌜ now (frame .exit) ≡ pixels BltPrimitive registers (now (table .entry)) k n (now (frame .entry)) ⌝ }
+{
+    let channel3 = blt::is_channel3(registers);
+    if channel3 {
+        blt::draw_colors(frame, registers, table, registers[CH3_OFFSET], k, n);
+        return;
+    }
+    let tiled = blt::is_tiled(registers);
+    if tiled {
+        blt::draw_colors(frame, registers, table, registers[DST_OFFSET], k, n);
+        return;
+    }
+    blt::draw(frame, blt::blt_of(registers), k, n);
+}
+
 // Draws n pixels of what judging accepts, from pixel k.
-pub fn draw(frame: &mut [u8], primitive: Primitive, registers: [u32; REGISTERS], k: usize, n: usize)
+pub fn draw(
+    frame: &mut [u8],
+    primitive: Primitive,
+    registers: [u32; REGISTERS],
+    table: &[u32; TABLE],
+    k: usize,
+    n: usize,
+)
     requires { ⌜ (judge primitive registers (length (now frame)) ≡ 0) × (k + n ≤ pixelCount primitive registers) × (length (now frame) ≤ frameMost) ⌝ }
-    ensures { λ _. ⌜ now (frame .exit) ≡ pixels primitive registers k n (now (frame .entry)) ⌝ }
+    ensures { λ _. ⌜ now (frame .exit) ≡ pixels primitive registers (now (table .entry)) k n (now (frame .entry)) ⌝ }
 {
     match primitive {
-        Primitive::Blt => blt::draw(frame, blt::blt_of(registers), k, n),
+        Primitive::Blt => draw_blt(frame, registers, table, k, n),
         Primitive::Vector => vector::draw(frame, vector::vector_of(registers), k, n),
     }
 }

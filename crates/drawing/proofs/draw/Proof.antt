@@ -1,22 +1,14 @@
-use native.Mathlib.Omega.{arith}
 use Rattle.model.specs.Unit.{pixelCount, drawPixel}
-use Rattle.laws.specs.Ranges.{fit-blt, fit-vector}
+use Rattle.laws.specs.Ranges.{fit-vector}
 use borrow.Author.Needs.{needs}
 use Rattle.drawing.proofs.draw.Statement.{statement}
 use Rattle.drawing.proofs.draw.Tie as tie
-use Rattle.vector.proofs.draw.Reads as draw-reads′
 
 enum-told : tie.Need-enum-told
 enum-told c = search needs
 
-blt-of-requires : tie.Need-blt-of-requires
-blt-of-requires c κs = search needs
-
-draw-requires : tie.Need-draw-requires
-unfolding pixelCount
-draw-requires c κs =
-    let told = c .before .before .enum-told .given .1 in
-    rw (c .blt-of .ensures) (fit-blt _ _ (rw told at (c .before .before .before .before .before .pre .0)), omega (arith, rw told at (c .before .before .before .before .before .pre .1)), c .before .before .before .before .before .pre .2)
+draw-blt-requires : tie.Need-draw-blt-requires
+draw-blt-requires c κs = rw (c .before .enum-told .given .1) at (c .before .before .before .before .pre)
 
 enum-told-2 : tie.Need-enum-told-2
 enum-told-2 c = search needs
@@ -24,9 +16,9 @@ enum-told-2 c = search needs
 vector-of-requires : tie.Need-vector-of-requires
 vector-of-requires c κs = search needs
 
-draw-requires-2 : tie.Need-draw-requires-2
+draw-requires : tie.Need-draw-requires
 unfolding pixelCount
-draw-requires-2 c κs =
+draw-requires c κs =
     let told = c .before .before .enum-told2 .given .1 in
     rw (c .vector-of .ensures) (fit-vector _ _ (rw told at (c .before .before .before .before .before .pre .0)), rw told at (c .before .before .before .before .before .pre .1), c .before .before .before .before .before .pre .2)
 
@@ -34,26 +26,24 @@ same-length : tie.Need-same-length
 same-length c = search needs
 
 returns : tie.Need-returns
-unfolding drawPixel
-returns c = rw (c .before .before .before .before .before .enum-told .given .1) (rw (c .before .before .before .blt-of .ensures) at (c .before .before .draw .ensures))
+returns c = rw (c .before .before .before .before .enum-told .given .1) (c .before .before .draw-blt .ensures)
 
 same-length-2 : tie.Need-same-length-2
 same-length-2 c = search needs
 
 returns-2 : tie.Need-returns-2
 unfolding drawPixel
-returns-2 c = rw (c .before .before .before .before .before .enum-told2 .given .1) (rw (c .before .before .before .vector-of .ensures) at (c .before .before .draw2 .ensures))
+returns-2 c = rw (c .before .before .before .before .before .enum-told2 .given .1) (rw (c .before .before .before .vector-of .ensures) at (c .before .before .draw .ensures))
 
 pub draw-spec : {M : Type 1} → statement M
 draw-spec =
     tie.close
     (tie.spec
     enum-told
-    blt-of-requires
-    draw-requires
+    draw-blt-requires
     enum-told-2
     vector-of-requires
-    draw-requires-2
+    draw-requires
     same-length
     returns
     same-length-2
