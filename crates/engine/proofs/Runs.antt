@@ -6,7 +6,8 @@ use lib.ListN.{length}
 use borrow.Author.Tests.{eq-eqb, ne-eqb}
 use Rattle.model.specs.Refusals.{first}
 use Rattle.model.specs.Ring.{room}
-use Rattle.model.specs.Calls.{runRules, refused, runRefusal, runUnits, ranAnswer, run, runFrame, machineOf}
+use Rattle.model.specs.Steps.{machine}
+use Rattle.model.specs.Calls.{runRules, refused, runRefusal, runUnits, runWord, ranAnswer, run, runFrame, machineOf}
 use Rattle.model.specs.declared.Core.{Core}
 use Rattle.model.specs.declared.State.{State}
 use Rattle.model.specs.declared.Reply.the-variants.{Ran}
@@ -26,9 +27,10 @@ module _ (ring : List ℕ) (s : State) (frame : List ℕ) (budget : ℕ) {n : �
     pub run-wellformed : WellFormed ring (s .write) (machineOf s frame)
     run-wellformed = wellformed-run ring s frame (refusal ∙ accepted)
 
-    pub run-finished : {d : Core} {after : List ℕ} {used : ℕ} → Finished ring (s .write) (s .core) d frame after budget used
-        → (record { state = record { core = d; write = s .write }; reply = Ran (wordOf ring d (s .write)) used (room (d .ringlength) (d .read) (s .write)) }
+    pub run-finished : {d : Core} {table after : List ℕ} {used : ℕ}
+        → Finished ring (s .write) (machineOf s frame) (machine d table after) budget used
+        → (record { state = record { core = d; table = table; write = s .write }; reply = Ran (wordOf ring d (s .write)) used (room (d .ringlength) (d .read) (s .write)) }
         ≡ run ring s frame budget)
         × (after ≡ runFrame ring s frame budget)
-    unfolding run runFrame ranAnswer runUnits
+    unfolding run runFrame ranAnswer runUnits runWord
     run-finished f = rw (eq-eqb _ _ (refusal ∙ accepted), f .same) (refl, refl)

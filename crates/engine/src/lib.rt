@@ -11,6 +11,7 @@ use model::Place;
 use model::REGISTERS;
 use model::Reply;
 use model::State;
+use model::TABLE;
 
 // ---- answers
 
@@ -39,6 +40,7 @@ fn fresh(ringlength: usize, framelength: usize) -> State
     ensures { λ r. ⌜ r ≡ freshState ringlength framelength ⌝ }
 {
     let registers = [0u32; REGISTERS];
+    let table = [0u32; TABLE];
     let core = Core {
         registers,
         read: 0,
@@ -48,7 +50,11 @@ fn fresh(ringlength: usize, framelength: usize) -> State
         stop: 0,
         place: Place::Idle,
     };
-    State { core, write: 0 }
+    State {
+        core,
+        table,
+        write: 0,
+    }
 }
 
 // A new engine for a ring of so many words and a frame memory of so many bytes.
@@ -70,13 +76,25 @@ fn publish_number(s: State, p: usize) -> u32
     ring::publish_refusal(c.ringlength, c.read, s.write, p)
 }
 
-// Publishes a position: the words before it are the engine's to read.
+// Publishes a position: the words before it are the engine's to read. A state is large, and this call is frequent: it copies it once.
 pub fn publish(s: State, p: usize) -> Answer
     ensures { λ r. ⌜ r ≡ publish s p ⌝ }
 {
     let no = publish_number(s, p);
-    let c = s.core;
-    answer(no, s, State { core: c, write: p })
+    if no == 0 {
+        let c = s.core;
+        let left = ring::room_left(c.ringlength, c.read, p);
+        let mut moved = s;
+        moved.write = p;
+        return Answer {
+            state: moved,
+            reply: Reply::Accepted { room: left },
+        };
+    }
+    Answer {
+        state: s,
+        reply: Reply::Refused(no),
+    }
 }
 
 fn restart_number(s: State) -> u32
@@ -102,7 +120,16 @@ pub fn restart(s: State) -> Answer
     let write = s.write;
     c.read = write;
     c.stop = 0;
-    answer(no, s, State { core: c, write })
+    let table = s.table;
+    answer(
+        no,
+        s,
+        State {
+            core: c,
+            table,
+            write,
+        },
+    )
 }
 
 fn room_number(s: State) -> u32
@@ -143,7 +170,8 @@ fn run_number(s: State, ringlength: usize, framelength: usize) -> u32
     0
 }
 
-// Does units, as many as the budget has, and reports how many they were and why it ends.
+// Does units, as many as the budget has, and reports how many they were and why it ends. The lookup table is copied out of the
+// state and lent to the units, and put into the state that is handed back.
 pub fn run(ring: &[u32], s: State, frame: &mut [u8], budget: u32) -> Answer
     ensures { λ r. ⌜ (r ≡ run (now (ring .entry)) s (now (frame .entry)) budget) × (now (frame .exit) ≡ runFrame (now (ring .entry)) s (now (frame .entry)) budget) ⌝ }
 {
@@ -151,12 +179,17 @@ pub fn run(ring: &[u32], s: State, frame: &mut [u8], budget: u32) -> Answer
     if no == 0 {
         let c = s.core;
         let write = s.write;
-        let t = units::do_units(c, write, ring, frame, budget);
+        let mut table = s.table;
+        let t = units::do_units(c, write, ring, &mut table, frame, budget);
         let after = t.core;
         let word = units::word_of(after, write, ring);
         let left = ring::room_left(after.ringlength, after.read, write);
         return Answer {
-            state: State { core: after, write },
+            state: State {
+                core: after,
+                table,
+                write,
+            },
             reply: Reply::Ran {
                 word,
                 units: t.used,

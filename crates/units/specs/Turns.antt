@@ -2,17 +2,19 @@
 use Prim.Native.Nat.{ℕ, _+_, _-_, _≤_, _<_}
 use mathlib.Core.Path.{_≡_}
 use mathlib.Core.Bool.{false}
-use mathlib.Core.List.{List}
+use mathlib.Core.List.{List, []}
 use lib.ListN.{length}
 use Rattle.model.specs.Choice.{_=?_, if_then_else_}
-use Rattle.model.specs.Limits.{ringLeast, ringMost}
+use Rattle.model.specs.Limits.{ringLeast, ringMost, tableLength}
 use Rattle.model.specs.Refusals.{first}
-use Rattle.model.specs.Command.{drawnBy, readAfter}
-use Rattle.model.specs.Unit.{headerAt, lengthAt, returnsAt, loadedAt, drawnRules, commandRefusal, ready, stopped, loadedCore, pixelCount, drawnCore, possible, units, done}
-use Rattle.model.specs.Steps.{machine}
+use Rattle.model.specs.Lookup.{dataCount}
+use Rattle.model.specs.Command.{kindOf, drawnBy, readAfter}
+use Rattle.model.specs.Unit.{Machine, headerAt, countedAt, lengthAt, returnsAt, loadedAt, drawnRules, commandRefusal, ready, stopped, loadedCore, tableAfter, pixelCount, drawnCore, possible, units, done}
 use Rattle.model.specs.Calls.{runWord}
 use Rattle.model.specs.declared.Core.{Core}
 use Rattle.model.specs.declared.Drawn.{Drawn}
+use Rattle.model.specs.declared.Drawn.the-variants.{Nothing}
+use Rattle.model.specs.declared.Kind.the-variants.{Table as TableKind}
 use Rattle.model.specs.declared.Place.{Place}
 use Rattle.model.specs.declared.Primitive.{Primitive}
 use Rattle.model.specs.declared.RunWord.{RunWord}
@@ -28,11 +30,14 @@ pub record FitCore (c : Core) (write ringlength : ℕ) : Type 0 where
   pub write-in : write < c .ringlength
   pub ring-is : ringlength ≡ c .ringlength
 
--- the core after the unit that loads or refuses a command
+-- the core after the unit that loads or refuses a command, and the table
 unfoldable pub loadUnit : List ℕ → Core → Core
 loadUnit ring c = if commandRefusal ring c =? 0 then loadedCore ring c else stopped c (commandRefusal ring c)
 
--- the whole command at the read pointer: its header, what it draws, and where the read pointer stands after it
+unfoldable pub tableUnit : List ℕ → Core → List ℕ → List ℕ
+tableUnit ring c table = if commandRefusal ring c =? 0 then tableAfter ring c table else table
+
+-- the whole BLT or vector at the read pointer: its header, what it draws, and where the read pointer stands after it
 pub record Loadable (ring : List ℕ) (c : Core) (header : ℕ) (drawn : Drawn) (next : ℕ) : Type 0 where
   pub ring-least : ringLeast ≤ length ring
   pub read-in : c .read < length ring
@@ -40,6 +45,19 @@ pub record Loadable (ring : List ℕ) (c : Core) (header : ℕ) (drawn : Drawn) 
   pub drawn-is : drawnBy (headerAt ring c) ≡ drawn
   pub next-is : readAfter (c .ringlength) (c .read) (lengthAt ring c) (returnsAt ring c) ≡ next
   pub refusal-is : commandRefusal ring c ≡ first (drawnRules drawn (loadedAt ring c) (c .framelength))
+  pub no-table : kindOf (headerAt ring c) ≡ TableKind → ⊥
+
+-- the whole table load at the read pointer: its header, its count, and where the read pointer stands after it
+pub record Fillable (ring : List ℕ) (c : Core) (header count next : ℕ) : Type 0 where
+  pub ring-least : ringLeast ≤ length ring
+  pub read-in : c .read < length ring
+  pub header-is : header ≡ headerAt ring c
+  pub kind-is : kindOf (headerAt ring c) ≡ TableKind
+  pub count-is : count ≡ dataCount (countedAt ring c)
+  pub count-most : count ≤ tableLength
+  pub drawn-is : drawnBy (headerAt ring c) ≡ Nothing
+  pub next-is : readAfter (c .ringlength) (c .read) (lengthAt ring c) (returnsAt ring c) ≡ next
+  pub accepted : commandRefusal ring c ≡ 0
 
 -- a core with other registers, read pointer, completion number and place
 unfoldable pub movedCore : Core → List ℕ → ℕ → ℕ → Place → Core
@@ -56,37 +74,41 @@ movedCore c registers read completion place = record {
 abbrev pub turn : Core → ℕ → Turn
 turn c used = record { core = c; used = used }
 
--- the turn of an engine that draws nothing
+-- the turn of an engine that draws nothing, and the table after it
 unfoldable pub commandTurn : List ℕ → Core → ℕ → Turn
 commandTurn ring c write = if ready ring c write then turn (loadUnit ring c) 1 else turn c 0
 
+unfoldable pub commandTable : List ℕ → Core → ℕ → List ℕ → List ℕ
+commandTable ring c write table = if ready ring c write then tableUnit ring c table else table
+
 -- some pixels of the command in progress are drawn, at most `left`
-pub record Painted (c : Core) (primitive : Primitive) (k : ℕ) (before after : List ℕ) (left : ℕ) (d : Core) (used : ℕ) : Type 0 where
+pub record Painted (c : Core) (primitive : Primitive) (k : ℕ) (table before after : List ℕ) (left : ℕ) (d : Core) (used : ℕ) : Type 0 where
   pub some : 0 < used
   pub most : used ≤ left
   pub within : k + used ≤ pixelCount primitive (c .registers)
   pub core-is : d ≡ drawnCore c primitive (k + used)
-  pub frame-is : after ≡ pixels primitive (c .registers) k used before
+  pub frame-is : after ≡ pixels primitive (c .registers) table k used before
 
 -- no unit could be done and none was; or some were, at most `left`, and what is left of the budget goes on from there
-pub data Advanced (ring : List ℕ) (write : ℕ) (c d : Core) (before after : List ℕ) (left used : ℕ) : Type 0 where
-  none : used ≡ 0 → possible ring c write ≡ false → after ≡ before → Advanced ring write c d before after left used
-  some : 0 < used → used ≤ left → WellFormed ring write (machine d after) → length after ≡ length before
-      → ((u : ℕ) → units ring write left u (machine c before) ≡ units ring write (left - used) (u + used) (machine d after))
-      → Advanced ring write c d before after left used
+pub data Advanced (ring : List ℕ) (write : ℕ) (before after : Machine) (left used : ℕ) : Type 0 where
+  none : used ≡ 0 → possible ring (before .core) write ≡ false → after .table ≡ before .table → after .frame ≡ before .frame
+      → Advanced ring write before after left used
+  some : 0 < used → used ≤ left → WellFormed ring write after → length (after .frame) ≡ length (before .frame)
+      → ((u : ℕ) → units ring write left u before ≡ units ring write (left - used) (u + used) after)
+      → Advanced ring write before after left used
 
 -- some of a budget's units are done, and the rest go on from there
-pub record Going (ring : List ℕ) (write : ℕ) (c d : Core) (before now : List ℕ) (budget used : ℕ) : Type 0 where
+pub record Going (ring : List ℕ) (write : ℕ) (before now : Machine) (budget used : ℕ) : Type 0 where
   pub most : used ≤ budget
-  pub wellformed : WellFormed ring write (machine d now)
-  pub length-kept : length now ≡ length before
-  pub same : units ring write budget 0 (machine c before) ≡ units ring write (budget - used) used (machine d now)
+  pub wellformed : WellFormed ring write now
+  pub length-kept : length (now .frame) ≡ length (before .frame)
+  pub same : units ring write budget 0 before ≡ units ring write (budget - used) used now
 
 -- all the units of a budget were done, or as many as could be
-pub record Finished (ring : List ℕ) (write : ℕ) (c d : Core) (before after : List ℕ) (budget used : ℕ) : Type 0 where
-  pub wellformed : WellFormed ring write (machine d after)
-  pub same : units ring write budget 0 (machine c before) ≡ done (machine d after) used
+pub record Finished (ring : List ℕ) (write : ℕ) (before after : Machine) (budget used : ℕ) : Type 0 where
+  pub wellformed : WellFormed ring write after
+  pub same : units ring write budget 0 before ≡ done after used
 
--- the word that a run reports of a core that it leaves
+-- the word that a run reports of a core that it leaves; the table has no part in it
 abbrev pub wordOf : List ℕ → Core → ℕ → RunWord
-wordOf ring c write = runWord ring (record { core = c; write = write })
+wordOf ring c write = runWord ring (record { core = c; table = []; write = write })

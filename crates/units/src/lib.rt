@@ -1,5 +1,5 @@
 // Units of work: the load of a command, spans of pixels, and as many as a budget allows. The inner functions are handed the
-// core and the write pointer, not the state.
+// core and the write pointer, not the state, and the lookup table is lent to them: no unit copies it.
 ghost use mathlib.Core.Path.{_≡_};
 ghost use Prim.Native.Nat.{_+_, _*_, _≤_, _<_};
 ghost use lib.ListN.{length};
@@ -10,7 +10,7 @@ ghost use Rattle.model.specs.Unit.{stopped, pixelCount, drawnCore, drawing, rea
 ghost use Rattle.model.specs.Steps.{machine};
 ghost use Rattle.laws.specs.Fit.{FitPlace};
 ghost use Rattle.laws.specs.WellFormed.{WellFormed};
-ghost use Rattle.units.specs.Turns.{FitCore, Loadable, loadUnit, movedCore, commandTurn, Painted, Advanced, Finished, wordOf};
+ghost use Rattle.units.specs.Turns.{FitCore, Loadable, Fillable, loadUnit, tableUnit, movedCore, commandTurn, commandTable, Painted, Advanced, Finished, wordOf};
 use command::Seen;
 use model::Core;
 use model::Drawn;
@@ -18,6 +18,7 @@ use model::Place;
 use model::Primitive;
 use model::REGISTERS;
 use model::RunWord;
+use model::TABLE;
 
 // ---- what a unit changes of the core
 
@@ -54,7 +55,7 @@ fn moved(c: Core, registers: [u32; REGISTERS], read: usize, completion: u32, pla
 
 // ---- commands
 
-// The core after the unit that loads the whole command at the read pointer, or refuses it by judging.
+// The core after the unit that loads the whole BLT or vector at the read pointer, or refuses it by judging.
 fn load(c: Core, ring: &[u32], header: u32, drawn: Drawn, next: usize) -> Core
     requires { ⌜ Loadable (now ring) c header drawn next ⌝ }
     ensures { λ r. ⌜ r ≡ loadUnit (now (ring .entry)) c ⌝ }
@@ -77,6 +78,24 @@ fn load(c: Core, ring: &[u32], header: u32, drawn: Drawn, next: usize) -> Core
             )
         }
     }
+}
+
+// The core after the unit that loads the whole table load at the read pointer: its data are in the table then.
+fn fill(
+    c: Core,
+    table: &mut [u32; TABLE],
+    ring: &[u32],
+    header: u32,
+    count: usize,
+    next: usize,
+) -> Core
+    requires { ⌜ Fillable (now ring) c header count next ⌝ }
+    ensures core { λ r. ⌜ r ≡ loadUnit (now (ring .entry)) c ⌝ }
+    ensures table { λ r. ⌜ now (table .exit) ≡ tableUnit (now (ring .entry)) c (now (table .entry)) ⌝ }
+{
+    let old = c.registers;
+    let registers = command::load_table(old, table, ring, c.read, header, count);
+    moved(c, registers, next, retire(c.completion), Place::Idle)
 }
 
 // ---- pixels
@@ -121,13 +140,15 @@ pub struct Turn {
 }
 
 // The turn of an engine that draws nothing: the command at the read pointer is loaded or refused, or waits.
-fn take(c: Core, write: usize, ring: &[u32]) -> Turn
+fn take(c: Core, write: usize, ring: &[u32], table: &mut [u32; TABLE]) -> Turn
     requires { ⌜ FitCore c write (length (now ring)) ⌝ }
-    ensures { λ r. ⌜ r ≡ commandTurn (now (ring .entry)) c write ⌝ }
+    ensures turn { λ r. ⌜ r ≡ commandTurn (now (ring .entry)) c write ⌝ }
+    ensures table { λ r. ⌜ now (table .exit) ≡ commandTable (now (ring .entry)) c write (now (table .entry)) ⌝ }
 {
     let read = c.read;
     let header = ring[read];
-    let seen = command::look(c.ringlength, read, write, header);
+    let counted = command::count_word(ring, read);
+    let seen = command::look(c.ringlength, read, write, header, counted);
     match seen {
         Seen::Waits => Turn { core: c, used: 0 },
         Seen::Refused(number) => Turn {
@@ -138,18 +159,29 @@ fn take(c: Core, write: usize, ring: &[u32]) -> Turn
             core: load(c, ring, header, drawn, next),
             used: 1,
         },
+        Seen::Table { count, next } => Turn {
+            core: fill(c, table, ring, header, count, next),
+            used: 1,
+        },
     }
 }
 
 // As many pixels of the command in progress as the budget allows.
-fn paint(c: Core, primitive: Primitive, k: usize, frame: &mut [u8], left: u32) -> Turn
+fn paint(
+    c: Core,
+    primitive: Primitive,
+    k: usize,
+    table: &[u32; TABLE],
+    frame: &mut [u8],
+    left: u32,
+) -> Turn
     requires { ⌜ (FitPlace c primitive k) × (length (now frame) ≡ c .framelength) × (c .framelength ≤ frameMost) × (0 < left) ⌝ }
-    ensures { λ r. ⌜ Painted c primitive k (now (frame .entry)) (now (frame .exit)) left (r .core) (r .used) ⌝ }
+    ensures { λ r. ⌜ Painted c primitive k (now (table .entry)) (now (frame .entry)) (now (frame .exit)) left (r .core) (r .used) ⌝ }
 {
     let registers = c.registers;
     let n = span(primitive, registers, k, left);
     let more = n as usize;
-    drawing::draw(frame, primitive, registers, k, more);
+    drawing::draw(frame, primitive, registers, table, k, more);
     Turn {
         core: drawn(c, primitive, k + more),
         used: n,
@@ -157,29 +189,43 @@ fn paint(c: Core, primitive: Primitive, k: usize, frame: &mut [u8], left: u32) -
 }
 
 // Does the next units, if any can be done: a command's, or as many pixels as the budget allows.
-fn advance(c: Core, write: usize, ring: &[u32], frame: &mut [u8], left: u32) -> Turn
-    requires { ⌜ (WellFormed (now ring) write (machine c (now frame))) × (0 < left) ⌝ }
-    ensures { λ r. ⌜ Advanced (now (ring .entry)) write c (r .core) (now (frame .entry)) (now (frame .exit)) left (r .used) ⌝ }
+fn advance(
+    c: Core,
+    write: usize,
+    ring: &[u32],
+    table: &mut [u32; TABLE],
+    frame: &mut [u8],
+    left: u32,
+) -> Turn
+    requires { ⌜ (WellFormed (now ring) write (machine c (now table) (now frame))) × (0 < left) ⌝ }
+    ensures { λ r. ⌜ Advanced (now (ring .entry)) write (machine c (now (table .entry)) (now (frame .entry))) (machine (r .core) (now (table .exit)) (now (frame .exit))) left (r .used) ⌝ }
 {
     if c.stop != 0 {
         return Turn { core: c, used: 0 };
     }
     let place = c.place;
     match place {
-        Place::Idle => take(c, write, ring),
-        Place::Drawing(primitive, k) => paint(c, primitive, k, frame, left),
+        Place::Idle => take(c, write, ring, table),
+        Place::Drawing(primitive, k) => paint(c, primitive, k, table, frame, left),
     }
 }
 
 // Does units until no further one can be done or the budget is used.
-pub fn do_units(c: Core, write: usize, ring: &[u32], frame: &mut [u8], budget: u32) -> Turn
-    requires { ⌜ WellFormed (now ring) write (machine c (now frame)) ⌝ }
-    ensures { λ r. ⌜ Finished (now (ring .entry)) write c (r .core) (now (frame .entry)) (now (frame .exit)) budget (r .used) ⌝ }
+pub fn do_units(
+    c: Core,
+    write: usize,
+    ring: &[u32],
+    table: &mut [u32; TABLE],
+    frame: &mut [u8],
+    budget: u32,
+) -> Turn
+    requires { ⌜ WellFormed (now ring) write (machine c (now table) (now frame)) ⌝ }
+    ensures { λ r. ⌜ Finished (now (ring .entry)) write (machine c (now (table .entry)) (now (frame .entry))) (machine (r .core) (now (table .exit)) (now (frame .exit))) budget (r .used) ⌝ }
 {
     let mut d = c;
     let mut used = 0;
     while used < budget {
-        let a = advance(d, write, ring, frame, budget - used);
+        let a = advance(d, write, ring, table, frame, budget - used);
         if a.used == 0 {
             return Turn { core: d, used };
         }
@@ -196,12 +242,9 @@ fn is_ready(c: Core, write: usize, ring: &[u32]) -> bool
     ensures { λ r. ⌜ r ≡ ready (now (ring .entry)) c write ⌝ }
 {
     let read = c.read;
-    let seen = command::look(c.ringlength, read, write, ring[read]);
-    match seen {
-        Seen::Waits => false,
-        Seen::Refused(_) => true,
-        Seen::Whole { .. } => true,
-    }
+    let header = ring[read];
+    let counted = command::count_word(ring, read);
+    command::is_ready(c.ringlength, read, write, header, counted)
 }
 
 // Whether an engine that has not stopped can do a further unit.

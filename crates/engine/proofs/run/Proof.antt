@@ -8,7 +8,7 @@ run-number-requires : tie.Need-run-number-requires
 run-number-requires c κs = search needs
 
 do-units-requires : tie.Need-do-units-requires
-do-units-requires c κs = run-wellformed (now (c .before .before .before .before .before .before .args .ring)) (c .before .before .before .before .before .before .args .s) (now (c .before .before .before .before .before .before .args .frame)) (c .before .before .before .before .before .before .args .budget) (c .before .before .before .run-number .ensures) (c .before .before .if1 .taken)
+do-units-requires c κs = run-wellformed (now (c .before .before .before .before .before .before .before .before .args .ring)) (c .before .before .before .before .before .before .before .before .args .s) (now (c .before .before .before .before .before .before .before .before .args .frame)) (c .before .before .before .before .before .before .before .before .args .budget) (c .before .before .before .before .before .run-number .ensures) (c .before .before .before .before .if1 .taken)
 
 word-of-requires : tie.Need-word-of-requires
 word-of-requires c κs = search needs
@@ -20,7 +20,7 @@ same-length : tie.Need-same-length
 same-length c = search needs
 
 returns : tie.Need-returns
-returns c = rw (c .before .word-of .ensures, c .room-left .ensures) (run-finished (now (c .before .before .before .before .before .before .before .before .before .before .before .before .args .ring)) (c .before .before .before .before .before .before .before .before .before .before .before .before .args .s) (now (c .before .before .before .before .before .before .before .before .before .before .before .before .args .frame)) (c .before .before .before .before .before .before .before .before .before .before .before .before .args .budget) (c .before .before .before .before .before .before .before .before .before .run-number .ensures) (c .before .before .before .before .before .before .before .before .if1 .taken) (c .before .before .before .before .before .do-units .ensures))
+returns c = rw (c .before .word-of .ensures, c .room-left .ensures) (run-finished (now (c .before .before .before .before .before .before .before .before .before .before .before .before .before .before .args .ring)) (c .before .before .before .before .before .before .before .before .before .before .before .before .before .before .args .s) (now (c .before .before .before .before .before .before .before .before .before .before .before .before .before .before .args .frame)) (c .before .before .before .before .before .before .before .before .before .before .before .before .before .before .args .budget) (c .before .before .before .before .before .before .before .before .before .before .before .run-number .ensures) (c .before .before .before .before .before .before .before .before .before .before .if1 .taken) (c .before .before .before .before .before .do-units .ensures))
 
 returns-2 : tie.Need-returns-2
 returns-2 c = run-refused (now (c .before .before .before .before .args .ring)) (c .before .before .before .before .args .s) (now (c .before .before .before .before .args .frame)) (c .before .before .before .before .args .budget) (c .before .run-number .ensures) (c .if1 .left)

@@ -1,48 +1,32 @@
-use mathlib.Core.Path.{sym, _∙_}
+use mathlib.Core.Path.{_∙_}
+use native.Mathlib.Omega.{arith}
 use denote.Ref.{now}
-use Rattle.command.specs.Look.{look-at}
-use Rattle.command.specs.declared.Seen.the-variants.{Waits, Refused, Whole}
+use Rattle.command.specs.Look.{ready-at}
 use borrow.Author.Needs.{needs}
 use Rattle.units.proofs.is_ready.Statement.{statement}
 use Rattle.units.proofs.is_ready.Tie as tie
 
-mul-look : tie.Need-mul-look
-mul-look c = search needs
+mul-header : tie.Need-mul-header
+mul-header c = search needs
 
-shared-slice-read-look : tie.Need-shared-slice-read-look
-shared-slice-read-look c = search needs
+shared-slice-read-header : tie.Need-shared-slice-read-header
+shared-slice-read-header c = search needs
 
-look-requires : tie.Need-look-requires
-look-requires c κs = search needs
+count-word-requires : tie.Need-count-word-requires
+count-word-requires c κs = (omega (arith, c .before .before .pre .read-in, c .before .before .pre .ring-is), omega (arith, c .before .before .pre .ring-least, c .before .before .pre .ring-is))
 
-enum-told : tie.Need-enum-told
-enum-told c = search needs
-
-enum-told-2 : tie.Need-enum-told-2
-enum-told-2 c = search needs
-
-enum-told-3 : tie.Need-enum-told-3
-enum-told-3 c = search needs
+is-ready-requires : tie.Need-is-ready-requires
+is-ready-requires c κs = search needs
 
 returns : tie.Need-returns
-returns c = sym (look-at (now (c .before .before .before .before .before .args .ring)) (c .before .before .before .before .before .args .c) (c .before .before .before .before .before .args .write) Waits (sym (c .enum-told .given .1) ∙ c .before .before .look .ensures))
-
-returns-2 : tie.Need-returns-2
-returns-2 c = sym (look-at (now (c .before .before .before .before .before .args .ring)) (c .before .before .before .before .before .args .c) (c .before .before .before .before .before .args .write) (Refused _) (sym (c .enum-told2 .given .1) ∙ c .before .before .look .ensures) .0)
-
-returns-3 : tie.Need-returns-3
-returns-3 c = sym (look-at (now (c .before .before .before .before .before .args .ring)) (c .before .before .before .before .before .args .c) (c .before .before .before .before .before .args .write) (Whole _ _) (sym (c .enum-told3 .given .1) ∙ c .before .before .look .ensures) .is-ready)
+returns c = rw (c .before .count-word .ensures) at (c .is-ready .ensures) ∙ ready-at (now (c .before .before .before .before .args .ring)) (c .before .before .before .before .args .c) (c .before .before .before .before .args .write)
 
 pub is-ready-spec : {M : Type 1} → statement M
 is-ready-spec =
     tie.close
     (tie.spec
-    mul-look
-    shared-slice-read-look
-    look-requires
-    enum-told
-    enum-told-2
-    enum-told-3
-    returns
-    returns-2
-    returns-3)
+    mul-header
+    shared-slice-read-header
+    count-word-requires
+    is-ready-requires
+    returns)

@@ -8,7 +8,7 @@ use Rattle.units.proofs.load.Statement.{statement}
 use Rattle.units.proofs.load.Tie as tie
 
 load-requires : tie.Need-load-requires
-load-requires c κs = search needs
+load-requires c κs = (rw (c .before .before .pre .header-is) (c .before .before .pre .no-table), c .before .before .pre .read-in, c .before .before .pre .ring-least)
 
 enum-told : tie.Need-enum-told
 enum-told c = search needs
