@@ -1,9 +1,9 @@
 // Runs the shop cases that document 01 does not mark and prints, for each, whether it comes out as it says.
 use libc::STDOUT_FILENO;
 
-// A ring of 64 words with one BLT at 0, all its words enabled: a solid fill of 5Ah by F0h, 8 bpp, 4 pixels wide, stride 16.
-fn fill(offset: u32, height: u32) -> [u32; 64] {
-    let mut ring = [0u32; 64];
+// A ring of 1,024 words with one BLT at 0, all its words enabled: a solid fill of 5Ah by F0h, 8 bpp, 4 pixels wide, stride 16.
+fn fill(offset: u32, height: u32) -> [u32; 1024] {
+    let mut ring = [0u32; 1024];
     ring[0] = 0xFFFF;
     ring[1] = 0xF0;
     ring[2] = offset;

@@ -11,7 +11,7 @@ use Rattle.model.specs.Bounds.{byteOutside, some, outside}
 use Rattle.model.specs.Completion.{retired}
 use Rattle.model.specs.Rectangle.{pixelByte}
 use Rattle.model.specs.Operands.{drawOperands}
-use Rattle.model.specs.BltPixel.{rectangleOf, sourceOf, patternOf, bltOf, sourceValue, withPattern, withSource, operandsAt, drawAt, drawBlt}
+use Rattle.model.specs.BltPixel.{rectangleOf, sourceOf, patternOf, colorPatternOf, bltOf, sourceValue, withPattern, withSource, operandsAt, drawAt, bltAt, drawBlt, drawTiled}
 use Rattle.model.specs.Command.{kindOf, badHeader, drawnBy, badReturn, wholeWords, readAfter, loadWords, loaded}
 use Rattle.model.specs.Judging.{judge}
 use Rattle.model.specs.Unit.{headerRefusal, commandRefusal, needed, ready, stopped, loadedCore, pixelCount, drawPixel, drawnCore, unitAt, unit, possible, units}
@@ -28,7 +28,8 @@ abbrev pub bytesOf : List ℕ → List ℕ
 bytesOf [] = []
 bytesOf (w ∷ ws) = w % 256 ∷ w / 256 % 256 ∷ w / 65_536 % 256 ∷ w / 16_777_216 % 256 ∷ bytesOf ws
 
--- "Ring 64, frame 64, write 17, budget 100, one BLT at 0, solid F0h fill, 8 bpp, 4 by 2, offset 10, stride 16, colour 5Ah"
+-- "Ring 64, frame 64, write 17, budget 100, one BLT at 0, solid F0h fill, 8 bpp, 4 by 2, offset 10, stride 16, colour 5Ah": the
+-- ring is the least, since W4 1,024 words, so the file has 1,028
 abbrev pub exampleFile : List ℕ
 exampleFile = bytesOf (size ∷ 64 ∷ 17 ∷ 100 ∷ shopRing)
 
@@ -41,5 +42,5 @@ pub record Example : Type 0 where
   pub longer : replayText (exampleFile ++ (0 ∷ [])) ≡ ascii "recording=bad\n"
 
 pub example : Example
-unfolding first any distance waiting room wordAt readPixel storePixel raster formatOf byteOutside some outside pixelByte rectangleOf sourceOf patternOf bltOf sourceValue withPattern withSource operandsAt drawOperands drawAt drawBlt kindOf badHeader drawnBy badReturn wholeWords readAfter loadWords loaded judge retired headerRefusal commandRefusal needed ready stopped loadedCore pixelCount drawPixel drawnCore unitAt unit possible units unfit setup publish runWord runRefusal runUnits ranAnswer run runFrame decimal replayLines played playedFrame replay replayFrame fileWord badRecording replayed replayedFrame replayText frameBytes
+unfolding first any distance waiting room wordAt readPixel storePixel raster formatOf byteOutside some outside pixelByte rectangleOf sourceOf patternOf colorPatternOf bltOf sourceValue withPattern withSource operandsAt drawOperands drawAt bltAt drawBlt drawTiled kindOf badHeader drawnBy badReturn wholeWords readAfter loadWords loaded judge retired headerRefusal commandRefusal needed ready stopped loadedCore pixelCount drawPixel drawnCore unitAt unit possible units unfit setup publish runWord runRefusal runUnits ranAnswer run runFrame decimal replayLines played playedFrame replay replayFrame fileWord badRecording replayed replayedFrame replayText frameBytes
 example = record { lines = refl; frame = refl; longer = refl }

@@ -155,7 +155,8 @@ pub fn frame_buffer() -> [u8; FRAME_LIMIT]
 }
 
 // Takes a recording out of the first n bytes of a buffer: its words into the first part of a ring, and zeros in their place,
-// since the buffer becomes frame memory. (File, ring and frame memory together would be more than 64 KiB.)
+// since the buffer becomes frame memory. (File, ring and frame memory together would be more than 64 KiB. The engine state, with
+// its table of 2 KiB, is no buffer: it goes in and comes back by value.)
 fn load(memory: &mut [u8], n: usize, ring: &mut [u32]) -> Head
     requires { ⌜ Counts n (now memory) × (frameLimit ≤ length (now memory)) × (ringLimit ≤ length (now ring)) × (badRecording (take n (now memory)) ≡ false) ⌝ }
     ensures { λ r. ⌜ Loaded (take n (now (memory .entry))) (now (ring .exit)) (now (memory .exit)) r ⌝ }

@@ -17,21 +17,21 @@ use Rattle.tracing.specs.Trace.{asked, askedFrame, stepOf, beginOf, trac
 
 -- "records of three words `op a b`"
 abbrev pub shortTrace : List ℕ
-shortTrace = bytesOf (64 ∷ 16 ∷ 1 ∷ 17 ∷ 0 ∷ 3 ∷ 0 ∷ 0 ∷ 4 ∷ 0 ∷ 0 ∷ [])
+shortTrace = bytesOf (1024 ∷ 16 ∷ 1 ∷ 17 ∷ 0 ∷ 3 ∷ 0 ∷ 0 ∷ 4 ∷ 0 ∷ 0 ∷ [])
 
 pub record Example : Type 0 where
-  -- a trace: publishing 17, asking for room, and a restart where nothing is stopped, in a ring of 64 with 16 bytes of frame
+  -- a trace: publishing 17, asking for room, and a restart where nothing is stopped, in a ring of 1,024 with 16 bytes of frame
   -- memory, whose CRC-32 any zip program gives; then the same cut short by a byte
   pub trace : traceText shortTrace ≡
-      ascii "call=setup answer=0 units=0 room=63 read=0 write=0 retired=0 stop=0 drawing=none\n"
-      ++ ascii "call=publish answer=0 units=0 room=46 read=0 write=17 retired=0 stop=0 drawing=none\n"
-      ++ ascii "call=room answer=0 units=0 room=46 read=0 write=17 retired=0 stop=0 drawing=none\n"
+      ascii "call=setup answer=0 units=0 room=1023 read=0 write=0 retired=0 stop=0 drawing=none\n"
+      ++ ascii "call=publish answer=0 units=0 room=1006 read=0 write=17 retired=0 stop=0 drawing=none\n"
+      ++ ascii "call=room answer=0 units=0 room=1006 read=0 write=17 retired=0 stop=0 drawing=none\n"
       ++ ascii "call=restart answer=refused-7 units=0 room=0 read=0 write=17 retired=0 stop=0 drawing=none\n"
       ++ ascii "frame_crc32=ecbb4b55\n"
   pub cut : traceText (take 43 shortTrace) ≡
-      ascii "call=setup answer=0 units=0 room=63 read=0 write=0 retired=0 stop=0 drawing=none\n"
-      ++ ascii "call=publish answer=0 units=0 room=46 read=0 write=17 retired=0 stop=0 drawing=none\n"
-      ++ ascii "call=room answer=0 units=0 room=46 read=0 write=17 retired=0 stop=0 drawing=none\n"
+      ascii "call=setup answer=0 units=0 room=1023 read=0 write=0 retired=0 stop=0 drawing=none\n"
+      ++ ascii "call=publish answer=0 units=0 room=1006 read=0 write=17 retired=0 stop=0 drawing=none\n"
+      ++ ascii "call=room answer=0 units=0 room=1006 read=0 write=17 retired=0 stop=0 drawing=none\n"
       ++ ascii "recording=bad\n"
 
 pub example : Example
