@@ -1,9 +1,9 @@
 //! Random cases: recordings and traces, directed so that accepted drawing is common and every refusal comes up.
 
-use crate::model::{self, Kind, Registers, SourceMode, State, Word};
+use crate::model::{self, Kind, Pattern, Registers, SourceMode, State, Word};
 use crate::model::{
-    BASE_OFFSET, BLT_MODE, CH3_MODE_STR, CH3_OFFSET, CH3_WIDHI, DST_OFFSET, PAT_COLOR_0, PAT_COLOR_1, PAT_DATA_0, PAT_DATA_1,
-    RASTER_MODE, SRC_COLOR_BG, SRC_COLOR_FG, SRC_OFFSET, STRIDE, VECTOR_MODE, VEC_ERR, VEC_LEN, WID_HEIGHT,
+    BASE_OFFSET, BLT_MODE, CH3_MODE_STR, CH3_OFFSET, CH3_WIDHI, DST_OFFSET, LUT_INDEX, PAT_COLOR_0, PAT_COLOR_1, PAT_DATA_0,
+    PAT_DATA_1, RASTER_MODE, SRC_COLOR_BG, SRC_COLOR_FG, SRC_OFFSET, STRIDE, VECTOR_MODE, VEC_ERR, VEC_LEN, WID_HEIGHT,
 };
 use crate::short_ways::{self, PLAIN, ROW_LENGTHS, WAYS};
 use std::collections::VecDeque;
@@ -170,11 +170,34 @@ fn raster_mode(rng: &mut Rng, kind: Kind, frame_len: i64) -> u32 {
         2 | 3 => rng.pick(&[0, 4, 5, 6]),
         _ => rng.pick(&[0, 0, 0, 4, 5, 6, 8, 8, 8]),
     };
-    let mono = kind == Kind::Blt && rng.chance(2, 5);
-    let transparent = rng.chance(if mono { 3 } else { 1 }, 6);
+    let pattern = match rng.below(20) {
+        _ if kind == Kind::Vector => 0,
+        0..=7 => 0,
+        8..=15 => 1,
+        _ => 2,
+    };
+    let transparent = rng.chance(if pattern == 0 { 1 } else { 3 }, 6);
     let code = if rng.chance(5, 6) { rng.bits() & 0xFF } else { rng.pick(&CODES) };
     // OS, AS, CS and the reserved bits have no effect while alpha is off
-    format << 28 | rng.idle(0x0F3F_C000) | u32::from(transparent) << 10 | u32::from(mono) << 8 | code
+    format << 28 | rng.idle(0x0F3F_C000) | u32::from(transparent) << 10 | pattern << 8 | code
+}
+
+const CH3_ON: u32 = 1 << 31;
+const CH3_TO_SOURCE: u32 = 1 << 30;
+const CH3_FORMAT: u32 = 0xF << 24;
+const CH3_PATTERN: u32 = 1 << 21;
+
+/// Channel 3's pattern in RASTER_MODE's format; its X and Y, the reserved bits and the stride have no effect.
+fn channel_3_pattern(rng: &mut Rng, r: &mut Registers) {
+    r[CH3_MODE_STR] = CH3_ON | CH3_PATTERN | r[RASTER_MODE] >> 28 << 24 | rng.idle(0x3000_0000) | rng.idle(0x0003_FFFF);
+    r[CH3_OFFSET] = rng.bits();
+}
+
+/// Any bits, but not its enable.
+fn channel_3_off(rng: &mut Rng, r: &mut Registers) {
+    if rng.chance(1, 3) || model::channel_3(r) {
+        r[CH3_MODE_STR] = rng.stale() & !CH3_ON;
+    }
 }
 
 fn stride(rng: &mut Rng, row: i64) -> u32 {
@@ -308,9 +331,11 @@ fn wish_short_way(rng: &mut Rng, registers: &Registers, frame_len: i64, most: i6
         17 | 18 => (any_code, rng.below(2)),
         _ => (rng.pick(&[0xCC, 0xF0, 0xF0, 0x5A, 0x5A, any_code]), 2),
     };
+    let code = if model::pattern(&r) == Pattern::Colour && rng.chance(2, 5) { any_code } else { code };
     r[RASTER_MODE] = r[RASTER_MODE] & !(0xFF | SI | ST) | code;
     if rng.chance(1, 3) {
         r[RASTER_MODE] &= !0x300; // a solid pattern
+        channel_3_off(rng, &mut r);
     }
     // none, with any mode, or a colour source, or a mono one
     let source_mode = match source {
@@ -384,15 +409,17 @@ fn source_place(rng: &mut Rng, row: i64, depth: i64, stride: i64) -> i64 {
     rng.pick(&[-step, step]) + rows * stride
 }
 
-/// Registers that no drawing reads, or of which one bit is judged.
+/// Registers that few BLTs read, or of which some bits are judged.
 fn idle_registers(rng: &mut Rng, r: &mut Registers) {
     for register in [SRC_COLOR_BG, CH3_OFFSET, CH3_WIDHI] {
         if rng.chance(1, 3) {
             r[register] = rng.stale();
         }
     }
-    if rng.chance(1, 3) || r[CH3_MODE_STR] >> 31 == 1 {
-        r[CH3_MODE_STR] = rng.stale() & 0x7FFF_FFFF;
+    if rng.chance(1, 7) {
+        channel_3_pattern(rng, r);
+    } else {
+        channel_3_off(rng, r);
     }
     r[BASE_OFFSET] = 0;
 }
@@ -458,9 +485,7 @@ fn wish_vector(rng: &mut Rng, registers: &Registers, frame_len: i64, most: i64) 
             r[register] = rng.stale();
         }
     }
-    if rng.chance(1, 3) || r[CH3_MODE_STR] >> 31 == 1 {
-        r[CH3_MODE_STR] = rng.stale() & 0x7FFF_FFFF;
-    }
+    channel_3_off(rng, &mut r);
     r[BASE_OFFSET] = 0;
     r
 }
@@ -490,6 +515,9 @@ fn wish(rng: &mut Rng, kind: Kind, registers: &Registers, frame_len: u32, most: 
             if model::bytes_per_pixel(&r).is_none() || !(1..=2 * most).contains(&model::pixel_count(kind, &r)) {
                 continue;
             }
+            if model::channel_3(&r) {
+                r[CH3_MODE_STR] = r[CH3_MODE_STR] & !CH3_FORMAT | r[RASTER_MODE] >> 28 << 24;
+            }
         }
         let keep_source = r[SRC_OFFSET] == registers[SRC_OFFSET];
         let settled = settle(rng, kind, &mut r, len, false)
@@ -517,6 +545,25 @@ fn choose_source(rng: &mut Rng, r: &mut Registers, frame_len: u32) {
     }
 }
 
+/// Channel 3's pattern with one fault.
+fn damage_channel_3(rng: &mut Rng, r: &mut Registers) {
+    channel_3_pattern(rng, r);
+    match rng.below(10) {
+        0 => r[CH3_MODE_STR] &= !CH3_PATTERN,
+        1 => r[CH3_MODE_STR] |= CH3_TO_SOURCE,
+        2..=4 => {
+            let format = r[RASTER_MODE] >> 28;
+            let near = if model::bytes_per_pixel(r) == Some(2) { rng.pick(&[4, 5, 6]) } else { rng.pick(&[0, 4, 5, 6, 8]) };
+            let mut other = if rng.chance(3, 4) { near } else { rng.below(16) as u32 };
+            if other == format {
+                other ^= rng.pick(&[1, 2, 3]);
+            }
+            r[CH3_MODE_STR] = r[CH3_MODE_STR] & !CH3_FORMAT | other << 24;
+        }
+        _ => r[CH3_MODE_STR] |= 1 << rng.pick(&[23, 22, 20, 19, 18]), // RO, BGR, PL, PE, HS
+    }
+}
+
 /// Changes one field so that judging refuses by this number (or by a lower one, where that cannot be had).
 fn damage(rng: &mut Rng, kind: Kind, r: &mut Registers, frame_len: u32, number: u32) {
     match number {
@@ -528,7 +575,7 @@ fn damage(rng: &mut Rng, kind: Kind, r: &mut Registers, frame_len: u32, number: 
                 r[RASTER_MODE] |= rng.pick(&[1, 2, 3]) << 22;
             }
         }
-        24 => match rng.below(if kind == Kind::Blt { 12 } else { 6 }) {
+        24 => match rng.below(if kind == Kind::Blt { 18 } else { 9 }) {
             bit @ 0..=2 => {
                 let bit = [SI, ST, PI][bit as usize];
                 if kind == Kind::Blt && bit != PI {
@@ -538,11 +585,26 @@ fn damage(rng: &mut Rng, kind: Kind, r: &mut Registers, frame_len: u32, number: 
                 }
                 r[RASTER_MODE] |= bit;
             }
-            3 => r[CH3_MODE_STR] |= 1 << 31,
+            3 if kind == Kind::Blt => damage_channel_3(rng, r),
+            3 => channel_3_pattern(rng, r),
             4 => r[BASE_OFFSET] = if rng.chance(1, 4) { rng.bits() | 1 } else { 1 << rng.below(32) },
             5 => {
-                let mode = if kind == Kind::Blt { rng.pick(&[2, 3]) } else { rng.pick(&[1, 2, 3]) };
+                let mode = if kind == Kind::Blt { 3 } else { rng.pick(&[1, 2, 3]) };
                 r[RASTER_MODE] = r[RASTER_MODE] & !0x300 | mode << 8;
+                if kind == Kind::Blt && rng.chance(1, 2) {
+                    channel_3_pattern(rng, r);
+                }
+            }
+            6..=8 if kind == Kind::Vector => r[CH3_MODE_STR] = rng.stale() | CH3_ON,
+            12..=16 => damage_channel_3(rng, r),
+            17 => {
+                r[RASTER_MODE] |= PI;
+                if rng.chance(1, 2) {
+                    r[RASTER_MODE] = r[RASTER_MODE] & !0x300 | 2 << 8;
+                    r[CH3_MODE_STR] &= !CH3_ON;
+                } else {
+                    channel_3_pattern(rng, r);
+                }
             }
             6 | 7 => set_source_mode(r, 3),
             8 => r[BLT_MODE] = r[BLT_MODE] & !3 | rng.pick(&[2, 3]),
@@ -631,6 +693,125 @@ fn load(registers: &mut Registers, kind: Kind, words: &[u32]) {
     }
 }
 
+// ---- Table loads ----------------------------------------------------------------------------------------------------------------
+
+const TABLE_LOAD: u32 = 2 << 29;
+const DATA_FOR_THE_TABLE: u32 = 3 << 29;
+
+/// A table load of random words at this index, or going on where the last one ended; the index register follows.
+fn table_load(rng: &mut Rng, registers: &mut Registers, index: Option<u32>, count: u32) -> Vec<u32> {
+    let mut header = TABLE_LOAD | u32::from(index.is_some());
+    if rng.chance(3, 4) {
+        header |= 2; // the count word's enable, without effect
+    }
+    if rng.chance(1, 5) {
+        header |= 1 << 28;
+    }
+    let index_word = match index {
+        Some(index) => index | rng.idle(0xFFFF_FE00),
+        None => rng.stale(),
+    };
+    if index.is_some() {
+        registers[LUT_INDEX] = index_word;
+    }
+    let last = registers[LUT_INDEX];
+    registers[LUT_INDEX] = last & !0x1FF | (last + count) & 0x1FF;
+    let mut words = vec![header, index_word, DATA_FOR_THE_TABLE | count];
+    words.extend((0..count).map(|_| rng.bits()));
+    words
+}
+
+/// One or two table loads, mostly into the tile.
+fn table_loads(rng: &mut Rng, registers: &mut Registers, room: u32) -> Vec<Vec<u32>> {
+    let tile = 0x100;
+    // of a tile at 8, 16 or 32 bits
+    let whole = rng.pick(&[16, 32, 64, 64]);
+    // words up to 511, and from 0 into the tile
+    let (before, behind) = (rng.between(1, 12) as u32, 256 + rng.between(1, 64) as u32);
+    let choice = match rng.below(40) {
+        long @ 0..=4 if room > 700 => long,
+        _ => rng.between(5, 39) as u64,
+    };
+    match choice {
+        0 | 1 => vec![table_load(rng, registers, Some(512 - before), before + behind)],
+        2 => {
+            let past = rng.between(1, 3) as u32;
+            let first = table_load(rng, registers, Some(512 - before), before + past);
+            vec![first, table_load(rng, registers, None, behind - past)]
+        }
+        3 => {
+            let first = table_load(rng, registers, Some(512 - before), before);
+            vec![first, table_load(rng, registers, None, behind)]
+        }
+        4 => {
+            let index = rng.below(512) as u32;
+            vec![table_load(rng, registers, Some(index), 512)]
+        }
+        5..=13 => vec![table_load(rng, registers, Some(tile), whole)],
+        14..=19 => {
+            let part = rng.between(1, i64::from(whole) - 1) as u32;
+            let first = table_load(rng, registers, Some(tile), part);
+            vec![first, table_load(rng, registers, None, whole - part)]
+        }
+        20 | 21 => vec![table_load(rng, registers, Some(tile - before), before + whole)],
+        22..=29 => {
+            let (index, count) = (tile + rng.below(64) as u32, rng.between(1, 8) as u32);
+            vec![table_load(rng, registers, Some(index), count)]
+        }
+        30..=33 => {
+            let count = rng.between(1, 8) as u32;
+            vec![table_load(rng, registers, None, count)]
+        }
+        34 | 35 => {
+            let count = rng.pick(&[1, 2, 2, 3]);
+            vec![table_load(rng, registers, Some(511), count)]
+        }
+        36 => vec![table_load(rng, registers, Some(512 - before), before)],
+        _ => {
+            let (index, count) = (rng.below(512) as u32, rng.between(1, 20) as u32);
+            vec![table_load(rng, registers, Some(index), count)]
+        }
+    }
+}
+
+/// Makes the count word such that 29 covers it.
+fn damage_count(rng: &mut Rng, word: &mut u32) {
+    match rng.below(8) {
+        0 | 1 => *word = *word & 0x1FFF_FFFF | rng.pick(&[0, 1, 2, 2, 4, 5, 6, 7]) << 29,
+        2 | 3 => *word |= 1 << rng.between(16, 28),
+        4 => *word &= 0xFFFF_0000,
+        5 => *word = *word & 0xFFFF_0000 | 513,
+        _ => {
+            let any = 513 + rng.below(0x1_0000 - 513) as u32;
+            *word = *word & 0xFFFF_0000 | rng.pick(&[514, 515, 576, 767, 1_021, 1_022, 1_024, 0x8000 | *word & 0x1FF, 0xFFFF, any]);
+        }
+    }
+}
+
+/// A table load into the tile that is to be refused by 21 or 29, or, with W at a wrong place, by 22.
+fn bad_table_load(rng: &mut Rng, registers: &Registers, number: u32) -> Vec<u32> {
+    let (index, count) = (0x100 + rng.below(60) as u32, rng.between(1, 6) as u32);
+    let mut words = table_load(rng, &mut registers.clone(), Some(index), count);
+    match number {
+        21 => {
+            words[0] |= 1 << rng.between(2, 27);
+            if rng.chance(1, 3) {
+                damage_count(rng, &mut words[2]);
+            }
+        }
+        29 => {
+            damage_count(rng, &mut words[2]);
+            if rng.chance(1, 8) {
+                damage_count(rng, &mut words[2]);
+            }
+        }
+        _ => {}
+    }
+    words
+}
+
+// ---- Lists of commands ----------------------------------------------------------------------------------------------------------
+
 fn some_kind(rng: &mut Rng) -> Kind {
     if rng.chance(3, 5) {
         Kind::Blt
@@ -639,10 +820,13 @@ fn some_kind(rng: &mut Rng) -> Kind {
     }
 }
 
-/// One or two good commands; the registers follow.
-fn good(rng: &mut Rng, registers: &mut Registers, frame_len: u32, most: i64) -> Vec<(Kind, Vec<u32>)> {
+/// Some good commands, the last of which draws; the registers follow. `room` is about how many words there are for them.
+fn good(rng: &mut Rng, registers: &mut Registers, frame_len: u32, most: i64, room: u32) -> Vec<Vec<u32>> {
     let kind = some_kind(rng);
     let mut list = Vec::new();
+    if room > 80 && rng.chance(1, 7) {
+        list.extend(table_loads(rng, registers, room));
+    }
     if rng.chance(1, 12) {
         // a load of anything, bad values too: judged only by a command that draws
         let words_kind = some_kind(rng);
@@ -654,7 +838,7 @@ fn good(rng: &mut Rng, registers: &mut Registers, frame_len: u32, most: i64) -> 
         }
         let words = emit(rng, words_kind, registers, &junk, false);
         load(registers, words_kind, &words);
-        list.push((words_kind, words));
+        list.push(words);
     }
     let wished = wish(rng, kind, registers, frame_len, most);
     if rng.chance(1, 6) {
@@ -668,16 +852,19 @@ fn good(rng: &mut Rng, registers: &mut Registers, frame_len: u32, most: i64) -> 
         }
         let words = emit(rng, words_kind, registers, &part, false);
         load(registers, words_kind, &words);
-        list.push((words_kind, words));
+        list.push(words);
     }
     let words = emit(rng, kind, registers, &wished, true);
     load(registers, kind, &words);
-    list.push((kind, words));
+    list.push(words);
     list
 }
 
-/// A command that is to be refused by this number, 21 or 23 to 28 (22 hangs on its place in the ring).
-fn bad(rng: &mut Rng, registers: &Registers, frame_len: u32, number: u32) -> (Kind, Vec<u32>) {
+/// A command that is to be refused by this number, 21 or 23 to 29 (22 hangs on its place in the ring).
+fn bad(rng: &mut Rng, registers: &Registers, frame_len: u32, number: u32) -> Vec<u32> {
+    if number == 29 || number == 21 && rng.chance(1, 2) {
+        return bad_table_load(rng, registers, number);
+    }
     let kind = match number {
         26 => Kind::Vector,
         28 => Kind::Blt,
@@ -706,17 +893,17 @@ fn bad(rng: &mut Rng, registers: &Registers, frame_len: u32, number: u32) -> (Ki
     if number == 21 {
         let lowest = if kind == Kind::Blt { 16 } else { 13 };
         match rng.below(4) {
-            0 => words[0] |= 1 << 30,
+            0 => words[0] |= 3 << 29, // kind 11
             1 => words[0] |= 1 << lowest,
             2 => words[0] |= 1 << 27,
             _ => words[0] |= 1 << rng.between(lowest, 27),
         }
     }
-    (kind, words)
+    words
 }
 
 fn some_refusal(rng: &mut Rng) -> u32 {
-    rng.pick(&[21, 23, 24, 24, 24, 24, 24, 25, 26, 27, 27, 27, 28, 28, 28, 28])
+    rng.pick(&[21, 21, 23, 24, 24, 24, 24, 24, 24, 24, 25, 26, 27, 27, 27, 28, 28, 28, 28, 29, 29, 29])
 }
 
 fn some_frame_length(rng: &mut Rng) -> u32 {
@@ -780,30 +967,46 @@ fn bytes_of(words: &[u32]) -> Vec<u8> {
 /// A whole recording.
 pub fn recording(rng: &mut Rng) -> Vec<u8> {
     let ring_len = match rng.below(6) {
-        0 => 64,
-        1 => rng.between(64, 100) as u32,
-        2 => 4_096,
-        3 => rng.between(64, 4_096) as u32,
-        _ => rng.between(200, 1_200) as u32,
+        0..=2 => 1_024,
+        3 => rng.between(1_024, 1_100) as u32,
+        4 => 4_096,
+        _ => rng.between(1_024, 4_096) as u32,
+    };
+    // how many words are filled with commands
+    let filled = match rng.below(6) {
+        0 => rng.between(64, 100) as u32,
+        1 => rng.between(64, i64::from(ring_len)) as u32,
+        2 | 3 => ring_len,
+        _ => rng.between(200, 1_024) as u32,
     };
     let frame_len = some_frame_length(rng);
     let mut registers = model::ZEROS.registers;
     let mut ring: Vec<u32> = Vec::new();
     if rng.chance(3, 4) {
-        ring.extend(ground(rng, &mut registers, frame_len, 4_000, ring_len >= 128));
+        ring.extend(ground(rng, &mut registers, frame_len, 4_000, filled >= 128));
+    }
+    if filled > 200 && rng.chance(3, 5) {
+        ring.extend(table_load(rng, &mut registers, Some(0x100), 64)); // a tile to draw with
     }
     let most = rng.pick(&[8, 30, 100, 100, 300, 300, 2_000]);
-    let full = ring_len as usize - 1;
+    let full = filled as usize - 1;
     let ending = rng.below(10);
+    // positions inside table loads
+    let mut inside = Vec::new();
     if ending == 0 {
         // W in a recording: refused at ring word 0, waiting anywhere else
         if rng.chance(1, 2) {
             ring.clear();
         }
         let at = registers;
-        let (_, mut words) = good(rng, &mut registers, frame_len, most).remove(0);
+        let mut words = match rng.below(4) {
+            0 => bad_table_load(rng, &registers, 22),
+            1 => bad_table_load(rng, &registers, 29),
+            _ => good(rng, &mut registers, frame_len, most, 100).remove(0),
+        };
         registers = at;
         words[0] |= 1 << 31;
+        inside.extend(model::is_table_load(words[0]).then(|| ring.len() + rng.between(1, 4) as usize));
         ring.extend(words);
     }
     if ending == 1 && rng.chance(2, 3) {
@@ -834,12 +1037,19 @@ pub fn recording(rng: &mut Rng) -> Vec<u8> {
     while ring.len() + 17 <= full {
         if ending > 4 && (ring.len() + 34 > full || rng.chance(1, 60)) {
             let number = some_refusal(rng);
-            ring.extend(bad(rng, &registers, frame_len, number).1);
+            let words = bad(rng, &registers, frame_len, number);
+            inside.extend(model::is_table_load(words[0]).then(|| ring.len() + rng.between(1, 4) as usize));
+            ring.extend(words);
             ends.push(ring.len());
             break;
         }
-        for (_, words) in good(rng, &mut registers, frame_len, most) {
+        let room = (full - ring.len()) as u32;
+        for words in good(rng, &mut registers, frame_len, most, room) {
             if ring.len() + words.len() <= full {
+                if model::is_table_load(words[0]) {
+                    let words_before = rng.between(1, words.len() as i64 - 1);
+                    inside.push(ring.len() + rng.pick(&[1, 2, 3, words_before, words_before]) as usize);
+                }
                 ring.extend(words);
                 ends.push(ring.len());
             }
@@ -856,7 +1066,11 @@ pub fn recording(rng: &mut Rng) -> Vec<u8> {
         0 => position = rng.below(u64::from(ring_len)) as u32, // inside a command, or behind all of them
         1 => position = rng.pick(&[ring_len, ring_len, ring_len + 1, u32::MAX]),
         2 => position = rng.pick(&ends) as u32,
+        3 | 4 if !inside.is_empty() => position = rng.pick(&inside) as u32,
         _ => {}
+    }
+    if ending == 0 && !inside.is_empty() && rng.chance(1, 2) {
+        position = inside[0] as u32;
     }
     // how many units there are, up to a limit
     let limit = 120_000;
@@ -866,7 +1080,7 @@ pub fn recording(rng: &mut Rng) -> Vec<u8> {
     let mut cuts = Cuts::new();
     let (_, answer) = model::run(state, &ring, &mut frame, limit, &mut |_, _, _, after| cuts.see(after));
     let budget = match cuts.pick(rng) {
-        Some(cut) if rng.chance(3, 5) => cut,
+        Some(cut) if rng.chance(2, 3) => cut,
         _ => some_budget(rng, answer.units, if answer.word == Word::Spent { limit } else { u32::MAX }, true),
     };
 
@@ -906,7 +1120,8 @@ impl Cuts {
     fn pick(&self, rng: &mut Rng) -> Option<u32> {
         let all = [
             "fill", "fill", "fill", "fill", "fill", "XOR", "XOR", "XOR", "XOR", "copy", "copy", "copy", "other code", "other code",
-            "mono pattern", "mono pattern", "mono pattern", "sourceless", "sourceless", "text",
+            "mono pattern", "mono pattern", "mono pattern", "sourceless", "sourceless", "text", "colour pattern", "colour pattern",
+            "colour pattern",
         ];
         let sides = |name: &&str| {
             let way = WAYS.iter().position(|way| way == name).unwrap_or(0);
@@ -942,7 +1157,7 @@ fn some_budget(rng: &mut Rng, exact: u32, limit: u32, mostly_whole: bool) -> u32
 pub fn damaged_recording(rng: &mut Rng) -> (&'static str, Vec<u8>) {
     let mut bytes = recording(rng);
     let set = |bytes: &mut Vec<u8>, index: usize, word: u32| bytes[4 * index..4 * index + 4].copy_from_slice(&word.to_le_bytes());
-    match rng.below(11) {
+    match rng.below(12) {
         0 => {
             bytes.pop();
             ("recording one byte short", bytes)
@@ -976,9 +1191,9 @@ pub fn damaged_recording(rng: &mut Rng) -> (&'static str, Vec<u8>) {
             set(&mut bytes, 1, rng.pick(&[32_769, 65_536, u32::MAX]));
             ("recording with frame over the limit", bytes)
         }
-        8 => {
-            let any = rng.between(0, 63) as u32;
-            let ring_len = rng.pick(&[0, 1, 17, 63, 63, any]);
+        8 | 11 => {
+            let any = rng.between(0, 1_023) as u32;
+            let ring_len = rng.pick(&[0, 1, 64, 64, 64, 1_023, 1_023, 1_023, any]);
             set(&mut bytes, 0, ring_len);
             if rng.chance(1, 3) {
                 set(&mut bytes, 1, 0);
@@ -1018,8 +1233,12 @@ struct Host<'a> {
 #[derive(Clone, Copy)]
 enum Item {
     Word(u32),
+    /// a word that stays as it stands in the ring
+    Kept,
     /// behind a command with W
     ToZero,
+    /// all that was stored is published, and the engine runs
+    Pause,
 }
 
 impl Host<'_> {
@@ -1080,19 +1299,29 @@ impl Host<'_> {
     /// Queues the next command or two.
     fn think(&mut self) {
         let frame_len = self.state.frame_len;
-        let list = if self.rng.chance(1, 9) {
+        let near_end = self.tip == 0 || self.state.ring_len - self.tip < 12;
+        let to_end = self.state.ring_len - self.tip;
+        let list = if near_end && self.rng.chance(1, 4) {
+            let number = self.rng.pick(&[21, 22, 22, 22, 29, 29]);
+            vec![bad_table_load(self.rng, &self.ahead, number)]
+        } else if (4..=60).contains(&to_end) && self.rng.chance(1, 6) {
+            // up to the ring's end, or one word too long for W
+            let count = to_end - self.rng.pick(&[3, 3, 2]);
+            vec![table_load(self.rng, &mut self.ahead, Some(0x100), count)]
+        } else if self.rng.chance(1, 9) {
             let number = some_refusal(self.rng);
             vec![bad(self.rng, &self.ahead, frame_len, number)]
         } else {
-            good(self.rng, &mut self.ahead, frame_len, self.most)
+            good(self.rng, &mut self.ahead, frame_len, self.most, self.state.ring_len)
         };
         let mut at = self.tip;
-        for (kind, mut words) in list {
-            let length = model::command_length(kind);
+        for mut words in list {
+            let length = words.len() as u32;
+            let table_load = model::is_table_load(words[0]);
             let room_behind = self.state.ring_len - at;
             let w_is_good = at != 0 && length <= room_behind;
             let w = if !w_is_good {
-                self.rng.chance(1, 14) // refused by 22
+                self.rng.chance(1, if table_load { 2 } else { 14 }) // refused by 22
             } else if room_behind < 2 * length {
                 self.rng.chance(1, 2)
             } else {
@@ -1101,12 +1330,36 @@ impl Host<'_> {
             if w {
                 words[0] |= 1 << 31;
             }
-            self.queue.extend(words.into_iter().map(Item::Word));
+            if table_load {
+                self.queue_table_load(words);
+            } else {
+                self.queue.extend(words.into_iter().map(Item::Word));
+            }
             at = (at + length) % self.state.ring_len;
             if w && w_is_good {
                 self.queue.push_back(Item::ToZero);
                 at = 0;
             }
+        }
+    }
+
+    /// Queues a table load, often with a pause after one, two or three words or inside its data. Of many words of data most are left as
+    /// they stand in the ring.
+    fn queue_table_load(&mut self, words: Vec<u32>) {
+        let inside = self.rng.between(1, words.len() as i64 - 1) as usize;
+        let pause = match self.rng.below(8) {
+            words_first @ 1..=3 => words_first as usize,
+            4 => inside,
+            5 => words.len() - 1,
+            _ => 0,
+        };
+        let long = words.len() > 67;
+        for (i, word) in words.into_iter().enumerate() {
+            if i > 0 && i == pause {
+                self.queue.push_back(Item::Pause);
+            }
+            let kept = long && i >= 3 && !self.rng.chance(1, 5);
+            self.queue.push_back(if kept { Item::Kept } else { Item::Word(word) });
         }
     }
 
@@ -1117,9 +1370,18 @@ impl Host<'_> {
         }
         let size = self.state.ring_len;
         match self.queue.front().copied() {
-            Some(Item::Word(word)) if (self.tip + 1) % size != self.state.read => {
-                self.store(self.tip, word);
+            Some(item @ (Item::Word(_) | Item::Kept)) if (self.tip + 1) % size != self.state.read => {
+                if let Item::Word(word) = item {
+                    self.store(self.tip, word);
+                }
                 self.tip = (self.tip + 1) % size;
+                self.queue.pop_front();
+                // words that are kept cost nothing
+                return !matches!(self.queue.front(), Some(Item::Kept)) || self.feed_one();
+            }
+            Some(Item::Pause) => {
+                self.publish(self.tip);
+                self.run(u32::MAX);
             }
             Some(Item::ToZero) => {
                 let to_zero = self.distance(self.state.read, 0);
@@ -1183,10 +1445,22 @@ impl Host<'_> {
         }
     }
 
+    /// Goes on near the ring's end, or at its first word, without filling the ring: what is published while the engine is stopped is
+    /// dropped by the restart.
+    fn publish_far(&mut self) {
+        let size = self.state.ring_len;
+        let any = self.rng.between(1, 60) as u32;
+        let before_end = self.rng.pick(&[0, 1, 2, 3, 5, 14, 17, 31, 34, any, any, any, any, any, any]);
+        self.publish((size - before_end) % size);
+    }
+
     fn step(&mut self) {
         if self.state.stop != 0 {
             match self.rng.below(10) {
                 0..=4 => {
+                    if self.rng.chance(2, 3) {
+                        self.publish_far();
+                    }
                     self.restart();
                     self.begin_again();
                 }
@@ -1236,14 +1510,14 @@ impl Host<'_> {
 /// A whole trace.
 pub fn trace(rng: &mut Rng) -> Vec<u8> {
     let ring_len = match rng.below(5) {
-        0 | 1 => 64,
-        2 | 3 => rng.between(64, 110) as u32,
-        _ => rng.pick(&[128, 256, 1_000, 4_096]),
+        0..=2 => 1_024,
+        3 => rng.between(1_024, 1_100) as u32,
+        _ => rng.pick(&[1_025, 1_200, 2_000, 4_096]),
     };
     let frame_len = some_frame_length(rng).min(8_000);
     let (state, _) = model::setup(ring_len, frame_len);
     let most = rng.pick(&[6, 20, 60, 200]);
-    let records = rng.pick(&[60, 400, 1_000, 2_000]);
+    let records = rng.pick(&[60, 600, 1_400, 2_600]);
     let mut host = Host {
         rng,
         records: vec![ring_len, frame_len],
@@ -1257,6 +1531,10 @@ pub fn trace(rng: &mut Rng) -> Vec<u8> {
     };
     let words = ground(host.rng, &mut host.ahead, frame_len, 2_000, true);
     host.queue.extend(words.into_iter().map(Item::Word));
+    if host.rng.chance(3, 5) {
+        let words = table_load(host.rng, &mut host.ahead, Some(0x100), 64);
+        host.queue_table_load(words);
+    }
     while host.records.len() < 3 * records {
         host.step();
     }
@@ -1299,7 +1577,7 @@ pub fn damaged_trace(rng: &mut Rng) -> (&'static str, Vec<u8>) {
             ("trace with frame over the limit", bytes)
         }
         6 => {
-            set(&mut bytes, 0, rng.pick(&[0, 1, 63]));
+            set(&mut bytes, 0, rng.pick(&[0, 1, 64, 1_023]));
             ("trace with ring refused", bytes)
         }
         7 => {

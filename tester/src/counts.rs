@@ -1,27 +1,35 @@
 //! How often each refusal, answer and kind of drawing came up. A name in the list that never came up fails the run.
 
 use crate::cases::span;
-use crate::model::{self, field, Answer, Kind, Registers, SourceMode, State, Word};
+use crate::model::{self, field, Answer, Kind, Pattern, Registers, SourceMode, State, Table, Word};
 use crate::model::{
-    BASE_OFFSET, BLT_MODE, CH3_MODE_STR, DST_OFFSET, PAT_COLOR_0, RASTER_MODE, SRC_COLOR_FG, SRC_OFFSET, VECTOR_MODE, WID_HEIGHT,
+    BASE_OFFSET, BLT_MODE, CH3_MODE_STR, CH3_OFFSET, DST_OFFSET, PAT_COLOR_0, RASTER_MODE, SRC_COLOR_FG, SRC_OFFSET, VECTOR_MODE,
+    WID_HEIGHT,
 };
 use crate::programs::{Call, Watch};
 use crate::short_ways::{self, MONO_PATTERN, OTHER_CODE, PLAIN, ROW_LENGTHS, TEXT, WAYS};
+use crate::tables::{self, Follow};
 use std::collections::BTreeMap;
 
 /// Refusals 3 and 4 are not here: the programs hand on the state that they were given and lend what they set up. What W3 needs at each
-/// depth is in `short_ways`.
+/// depth is in `short_ways`, what W4 needs in `tables`.
 const NEEDED: &[(&str, &[&str])] = &[
-    ("refusals", &["1", "2", "5", "6", "7", "21", "22", "23", "24", "25", "26", "27", "28"]),
+    ("refusals", &["1", "2", "5", "6", "7", "21", "22", "23", "24", "25", "26", "27", "28", "29"]),
     (
         "refused for",
         &[
-            "21 kind", "21 reserved bit", "21 before the command is whole", "22 at ring word 0", "22 across the end",
+            "1 at 64 words", "1 at 1,023 words", "21 kind 11", "21 reserved bit", "21 before the command is whole", "22 at ring word 0",
+            "22 across the end",
             "22 before the command is whole", "23 format", "23 alpha", "24 SM 11 with a source", "24 SM 11 without a source", "24 SR",
-            "24 PM of a BLT", "24 PM of a vector", "24 SI of a vector", "24 ST of a vector", "24 SI on a colour source",
+            "24 PM 11 of a BLT", "24 PM 11 under channel 3's pattern", "24 PM 01 of a vector", "24 PM 10 of a vector",
+            "24 PM 11 of a vector", "24 SI of a vector", "24 ST of a vector", "24 SI on a colour source",
             "24 ST on a colour source", "24 SI with SM 00 and no source", "24 ST with SM 00 and no source", "24 PI of a BLT",
-            "24 PI of a vector", "24 unpacked with X-", "24 byte-packed with X-", "24 byte-packed with Y-", "24 channel 3",
-            "24 BASE_OFFSET", "25 width", "25 height", "25 length", "26 axial", "26 diagonal", "27 BLT one byte before",
+            "24 PI of a vector", "24 PI on a colour pattern", "24 PI on channel 3's pattern", "24 unpacked with X-",
+            "24 byte-packed with X-", "24 byte-packed with Y-", "24 channel 3 without pattern mode", "24 channel 3 to the source",
+            "24 channel 3 in another format", "24 channel 3 in another format of the same depth", "24 channel 3 with RO",
+            "24 channel 3 with BGR", "24 channel 3 with PL", "24 channel 3 with PE", "24 channel 3 with HS", "24 channel 3 of a vector",
+            "24 channel 3's pattern of a vector", "24 BASE_OFFSET", "25 width", "25 height", "25 length", "26 axial", "26 diagonal",
+            "27 BLT one byte before",
             "27 BLT one byte behind", "27 vector one byte before", "27 vector one byte behind", "28 colour one byte before",
             "28 colour one byte behind", "28 colour with a code that reads no source", "28 unpacked one byte before",
             "28 unpacked one byte behind", "28 unpacked by its XLSBS alone", "28 unpacked with a code that reads no source",
@@ -30,7 +38,7 @@ const NEEDED: &[(&str, &[&str])] = &[
     ),
     (
         "answers",
-        &["setup 0", "publish 0", "room 0", "restart 0", "run waiting", "run spent", "run stopped"],
+        &["setup 0", "setup at 1,024 words", "publish 0", "room 0", "restart 0", "run waiting", "run spent", "run stopped"],
     ),
     (
         "calls",
@@ -66,7 +74,8 @@ const NEEDED: &[(&str, &[&str])] = &[
         &[
             "unpacked", "unpacked plain", "unpacked inverted", "unpacked transparent", "unpacked inverted and transparent",
             "unpacked 8 bpp", "unpacked 16 bpp", "unpacked 32 bpp", "unpacked under a solid pattern", "unpacked under a mono pattern",
-            "unpacked under a transparent pattern", "unpacked code CCh", "unpacked code F0h", "unpacked code 5Ah", "unpacked Y-",
+            "unpacked under a transparent pattern", "unpacked under a colour pattern", "unpacked code CCh", "unpacked code F0h",
+            "unpacked code 5Ah", "unpacked Y-",
             "unpacked stride 0", "unpacked rows that share bytes", "unpacked rows longer by XLSBS", "unpacked font from the first byte",
             "unpacked font from the first byte, Y-", "unpacked font to the last byte",
             "unpacked font to the last bit", "unpacked font to the last byte, a stride past the end",
@@ -74,7 +83,8 @@ const NEEDED: &[(&str, &[&str])] = &[
             "unpacked last pixel transparent", "spent inside unpacked", "byte-packed", "byte-packed plain", "byte-packed inverted",
             "byte-packed transparent", "byte-packed inverted and transparent", "byte-packed 8 bpp", "byte-packed 16 bpp",
             "byte-packed 32 bpp", "byte-packed under a solid pattern", "byte-packed under a mono pattern",
-            "byte-packed under a transparent pattern", "byte-packed code CCh", "byte-packed code F0h", "byte-packed code 5Ah",
+            "byte-packed under a transparent pattern", "byte-packed under a colour pattern", "byte-packed code CCh",
+            "byte-packed code F0h", "byte-packed code 5Ah",
             "byte-packed rows unlike the stride", "byte-packed rows longer by XLSBS", "byte-packed font from the first byte",
             "byte-packed font to the last byte", "byte-packed font to the last bit",
             "byte-packed font to the last byte, by the stride past the end", "byte-packed font with set and clear bits",
@@ -137,6 +147,14 @@ pub struct Counts {
     /// by depth, each bit of each code, of BLTs and of vectors
     blt_bits: [[u64; 2_048]; 3],
     vector_bits: [[u64; 2_048]; 3],
+    /// origins of tiles that show: by RASTER_MODE, by channel 3
+    tile_origins: [[u64; 64]; 2],
+    tile_codes: [u64; 256],
+    /// of refused table loads: header bits 27:2, one alone; DTYPEs but 011 and reserved bits 28:16, where the count word has no other fault
+    header_bits: [u64; 26],
+    data_types: [u64; 7],
+    reserved_bits: [u64; 13],
+    follow: Follow,
     pub units: u64,
     /// which kind of command wrote registers 2 and 4 last, in this case
     wrote: [Option<Kind>; 2],
@@ -153,7 +171,7 @@ pub struct Counts {
 impl Counts {
     pub fn new() -> Counts {
         let mut count = BTreeMap::new();
-        for (_, names) in NEEDED {
+        for (_, names) in NEEDED.iter().chain(tables::NEEDED) {
             for name in *names {
                 count.insert(name.to_string(), 0);
             }
@@ -177,6 +195,12 @@ impl Counts {
             neighbours: [0; 8 * PLAIN.len()],
             blt_bits: [[0; 2_048]; 3],
             vector_bits: [[0; 2_048]; 3],
+            tile_origins: [[0; 64]; 2],
+            tile_codes: [0; 256],
+            header_bits: [0; 26],
+            data_types: [0; 7],
+            reserved_bits: [0; 13],
+            follow: Follow::new(),
             units: 0,
             wrote: [None, None],
             loaded: (0, 0),
@@ -192,6 +216,7 @@ impl Counts {
         self.overtakes = false;
         self.fresh = true;
         self.recording = recording;
+        self.follow = Follow::new();
     }
 
     pub fn hit(&mut self, name: &str) {
@@ -207,10 +232,16 @@ impl Counts {
         }
     }
 
+    fn hit_all(&mut self, names: Vec<String>) {
+        for name in names {
+            self.hit(&name);
+        }
+    }
+
     /// Prints all counts; true if none is zero.
     pub fn report(&self) -> bool {
         let mut missing = Vec::new();
-        for (group, names) in NEEDED {
+        for (group, names) in NEEDED.iter().chain(tables::NEEDED) {
             println!("{group}:");
             for name in *names {
                 let count = self.count[*name];
@@ -249,6 +280,12 @@ impl Counts {
             ("vectors at 8 bits: the bits of the raster codes", &self.vector_bits[0]),
             ("vectors at 16 bits: the bits of the raster codes", &self.vector_bits[1]),
             ("vectors at 32 bits: the bits of the raster codes", &self.vector_bits[2]),
+            ("origins of colour patterns", &self.tile_origins[0]),
+            ("origins of channel 3's patterns", &self.tile_origins[1]),
+            ("raster codes under a tile of more than one colour", &self.tile_codes),
+            ("21 table load: header bits 27:2", &self.header_bits),
+            ("29: DTYPEs but 011", &self.data_types),
+            ("29: reserved bits 28:16", &self.reserved_bits),
         ];
         let rows: Vec<String> = WAYS.iter().map(|way| format!("{way}: rows about 1, 8, 16, 32 and 64 bytes, and longer")).collect();
         sets.extend(rows.iter().zip(&self.row_lengths).map(|(name, set)| (name.as_str(), &set[..])));
@@ -268,11 +305,16 @@ impl Counts {
 
     fn refused_command(&mut self, before: &State, ring: &[u32], number: u32) {
         self.hit(&number.to_string());
+        self.follow.refused();
         let header = ring[before.read as usize];
+        if model::is_table_load(header) {
+            self.refused_table_load(before, ring, number);
+            return;
+        }
         let kind = match model::kind_of(header) {
             Some(kind) => kind,
             None => {
-                self.hit("21 kind");
+                self.hit("21 kind 11");
                 self.hit_if(model::waiting(before) < 14, "21 before the command is whole");
                 return;
             }
@@ -337,8 +379,34 @@ impl Counts {
         }
     }
 
+    /// The faults that stand alone; the rest is told by following the table.
+    fn refused_table_load(&mut self, before: &State, ring: &[u32], number: u32) {
+        let bits = model::table_header_faults(model::ring_word(before, ring, 0));
+        if bits.is_power_of_two() {
+            self.header_bits[bits.trailing_zeros() as usize] += 1;
+        }
+        if number == 29 {
+            let word = model::ring_word(before, ring, 2);
+            let (data_type, reserved) = (field(word, 31, 29), field(word, 28, 16));
+            let count_good = (1..=512).contains(&model::data_count(word));
+            if count_good && reserved == 0 {
+                self.data_types[data_type as usize - usize::from(data_type > 3)] += 1;
+            }
+            if count_good && data_type == 3 && reserved.is_power_of_two() {
+                self.reserved_bits[reserved.trailing_zeros() as usize] += 1;
+            }
+        }
+        let kinds = self.follow.refuse(before, ring, number);
+        self.hit_all(kinds);
+    }
+
     fn loaded_command(&mut self, before: &State, ring: &[u32], frame: &[u8], after: &State) {
         let header = ring[before.read as usize];
+        if model::is_table_load(header) {
+            let kinds = self.follow.load(before, ring, after);
+            self.hit_all(kinds);
+            return;
+        }
         let kind = match model::kind_of(header) {
             Some(kind) => kind,
             None => return,
@@ -384,11 +452,13 @@ impl Counts {
         }
         self.hit_if(!enabled(RASTER_MODE), "kept RASTER_MODE");
         self.hit_if(!enabled(WID_HEIGHT), if blt { "kept WID_HEIGHT" } else { "kept VEC_LEN" });
-        self.drawing(kind, &after.registers, frame);
+        self.drawing(kind, &after.registers, &after.table, frame);
     }
 
-    fn drawing(&mut self, kind: Kind, r: &Registers, frame: &[u8]) {
+    fn drawing(&mut self, kind: Kind, r: &Registers, table: &Table, frame: &[u8]) {
         let frame_len = frame.len() as i64;
+        let kinds = self.follow.draw(kind, r, table, frame_len);
+        self.hit_all(kinds);
         let raster = r[RASTER_MODE];
         let depth = model::bytes_per_pixel(r).unwrap_or(1);
         let code = field(raster, 7, 0) as usize;
@@ -431,21 +501,28 @@ impl Counts {
             return;
         }
         self.blt_codes[code] += 1;
-        self.short_ways(r, frame);
+        self.short_ways(r, table, frame);
         self.hit(&format!("blt format {:04b}", field(raster, 31, 28)));
         let transparent = field(raster, 10, 10) == 1;
         let origin = field(r[DST_OFFSET], 31, 26) as usize;
-        match (field(raster, 9, 8) == 1, transparent) {
-            (false, false) => self.hit("blt-solid"),
-            (false, true) => self.hit("blt-solid with PT set"),
-            (true, false) => {
+        match (model::pattern(r), transparent) {
+            (Pattern::Solid, false) => self.hit("blt-solid"),
+            (Pattern::Solid, true) => self.hit("blt-solid with PT set"),
+            (Pattern::Mono, false) => {
                 self.hit("blt-mono");
                 self.opaque_origins[origin] += 1;
             }
-            (true, true) => {
+            (Pattern::Mono, true) => {
                 self.hit("blt-mono-transparent");
                 self.transparent_origins[origin] += 1;
             }
+            _ if short_ways::many_colours(r, table) => {
+                let third = model::channel_3(r);
+                let origin = if third { field(r[CH3_OFFSET], 31, 26) as usize } else { origin };
+                self.tile_origins[usize::from(third)][origin] += u64::from(short_ways::reads_pattern(r));
+                self.tile_codes[code] += 1;
+            }
+            _ => {}
         }
         let sign = |bit: u32| if field(r[BLT_MODE], bit, bit) == 1 { "-" } else { "+" };
         let way = format!("X{} Y{}", sign(9), sign(8));
@@ -470,7 +547,7 @@ impl Counts {
             return;
         }
         if model::source_mode(r) != SourceMode::Colour {
-            self.mono_source(r, frame);
+            self.mono_source(r, table, frame);
             return;
         }
         self.hit("blt-source");
@@ -500,9 +577,10 @@ impl Counts {
             return;
         }
         self.hit_if(!selected && mode_name(r) != "colour", &format!("{back}, SM mono, no source"));
-        let pattern = field(r[RASTER_MODE], 10, 8);
-        self.hit_if(pattern == 0b001, &format!("{back}, a mono pattern"));
-        self.hit_if(pattern == 0b101, &format!("{back}, a transparent pattern"));
+        let mono = model::pattern(r) == Pattern::Mono;
+        let transparent = field(r[RASTER_MODE], 10, 10) == 1;
+        self.hit_if(mono && !transparent, &format!("{back}, a mono pattern"));
+        self.hit_if(mono && transparent, &format!("{back}, a transparent pattern"));
         let (low, high) = span(Kind::Blt, r, false);
         self.hit_if(rows && low == 0, &format!("{back} {y}, from byte 0"));
         self.hit_if(rows && high == frame_len - 1, &format!("{back} {y}, to the last byte"));
@@ -543,14 +621,14 @@ fn as_in_document_01(r: &Registers) -> Registers {
 
 impl Counts {
     /// A BLT from a font in frame memory, which is shown as the BLT finds it.
-    fn mono_source(&mut self, r: &Registers, frame: &[u8]) {
+    fn mono_source(&mut self, r: &Registers, table: &Table, frame: &[u8]) {
         let mode = mode_name(r);
         let raster = r[RASTER_MODE];
         let code = field(raster, 7, 0);
         let depth = model::bytes_per_pixel(r).unwrap_or(1);
         let (width, height, xlsbs) = (model::width(r), model::height(r), model::source_xlsbs(r));
         let transparent = model::source_transparency(r);
-        let hidden = field(raster, 10, 8) == 0b101;
+        let hidden = model::pattern(r) == Pattern::Mono && field(raster, 10, 10) == 1;
         self.hit(mode);
         let bits = match (model::source_inversion(r), transparent) {
             (false, false) => "plain",
@@ -560,10 +638,11 @@ impl Counts {
         };
         self.hit(&format!("{mode} {bits}"));
         self.hit(&format!("{mode} {} bpp", 8 * depth));
-        let pattern = match (field(raster, 9, 8), hidden) {
-            (0, _) => "solid",
-            (_, false) => "mono",
-            (_, true) => "transparent",
+        let pattern = match (model::pattern(r), hidden) {
+            (Pattern::Solid, _) => "solid",
+            (Pattern::Mono, false) => "mono",
+            (Pattern::Mono, true) => "transparent",
+            _ => "colour",
         };
         self.hit(&format!("{mode} under a {pattern} pattern"));
         self.hit_if([0xCC, 0xF0, 0x5A].contains(&code), &format!("{mode} code {code:02X}h"));
@@ -627,7 +706,7 @@ impl Counts {
                 by_both |= gone && covered;
             }
             self.hit_if(gone && k == count - 1, &format!("{mode} last pixel transparent"));
-            model::draw_blt_pixel(r, &mut now, k);
+            model::draw_blt_pixel(r, table, &mut now, k);
         }
         self.hit_if(set && clear, &format!("{mode} font with set and clear bits"));
         self.hit_if(changed, &format!("{mode} reads a bit that it changed"));
@@ -639,7 +718,7 @@ impl Counts {
 
 impl Counts {
     /// A BLT that is drawn, by the ways of W3.
-    fn short_ways(&mut self, r: &Registers, frame: &[u8]) {
+    fn short_ways(&mut self, r: &Registers, table: &Table, frame: &[u8]) {
         let depth = model::bytes_per_pixel(r).unwrap_or(1);
         let way = short_ways::way(r);
         let row = depth * model::width(r);
@@ -648,7 +727,7 @@ impl Counts {
             None if row > 65 => self.row_lengths[way][ROW_LENGTHS.len()] += 1,
             None => {}
         }
-        let kinds = short_ways::kinds(r, frame);
+        let kinds = short_ways::kinds(r, table, frame);
         self.overtakes = kinds.contains(&format!("{}: overtakes in a row", WAYS[way]));
         for kind in kinds {
             self.hit(&short_ways::at_depth(r, &kind));
@@ -659,14 +738,14 @@ impl Counts {
         let mut now = frame.to_vec();
         let (mut unlike, mut asked) = ([false; PLAIN.len()], 0);
         for k in 0..model::pixel_count(Kind::Blt, r).min(64) {
-            if let Some([p, s, d]) = short_ways::operands(r, &now, k) {
+            if let Some([p, s, d]) = short_ways::operands(r, table, &now, k) {
                 asked |= asked_bits(depth, [p, s, d]);
                 let result = |code: u32| model::raster_operation(code, p, s, d, 8 * depth);
                 for (plain, unlike) in PLAIN.iter().zip(&mut unlike) {
                     *unlike |= (code ^ plain).is_power_of_two() && result(code) != result(*plain);
                 }
             }
-            model::draw_blt_pixel(r, &mut now, k);
+            model::draw_blt_pixel(r, table, &mut now, k);
         }
         count_bits(&mut self.blt_bits, code as usize, depth, asked);
         for (i, plain) in PLAIN.iter().enumerate().filter(|(i, _)| unlike[*i]) {
@@ -675,7 +754,7 @@ impl Counts {
     }
 
     /// A run that begins with this pixel of a BLT.
-    fn taken_up(&mut self, r: &Registers, drawn: i64) {
+    fn taken_up(&mut self, r: &Registers, table: &Table, drawn: i64) {
         let way = short_ways::way(r);
         let column = drawn % model::width(r);
         if column == 0 {
@@ -691,6 +770,9 @@ impl Counts {
         if way == MONO_PATTERN && column % 8 != 0 {
             let tile = if field(r[RASTER_MODE], 10, 10) == 1 { "a transparent tile" } else { "a tile" };
             self.hit(&short_ways::at_depth(r, &format!("mono pattern: taken up inside {tile}")));
+        }
+        if model::pattern(r) == Pattern::Colour && column % 8 != 0 && tables::tile_shows(r, table) {
+            self.hit(&short_ways::at_depth(r, &format!("{} taken up inside a tile", tables::short_name(r))));
         }
     }
 }
@@ -708,10 +790,10 @@ fn count_bits(bits: &mut [[u64; 2_048]; 3], code: usize, depth: i64, asked: u32)
     }
 }
 
-/// The lines of W3's kinds: group, kind, and its names with depth and direction.
+/// The lines of W3's and W4's kinds: group, kind, and its names with depth and direction.
 fn lines() -> Vec<(&'static str, String, Vec<(String, String)>)> {
     let mut lines = Vec::new();
-    for each in short_ways::NEEDED {
+    for each in short_ways::NEEDED.iter().chain(tables::EACH) {
         for of in each.of {
             for name in each.names {
                 lines.push((each.group, format!("{of} {name}"), each.line(of, name)));
@@ -746,24 +828,53 @@ fn reasons_for_24(kind: Kind, r: &Registers) -> Vec<&'static str> {
     let (colour, from_frame) = (mode == "colour", source_select == 1);
     let (inversion, transparency) = (model::source_inversion(r), model::source_transparency(r));
     let (x, y) = (model::x_negative(r), model::y_negative(r));
+    let pi = field(raster, 12, 12) == 1;
+    let colour_pattern = blt && model::pattern(r) == Pattern::Colour;
+    // channel 3
+    let third = model::channel_3(r);
+    let set = |bit: u32| field(r[CH3_MODE_STR], bit, bit) == 1;
+    let (own, format) = (field(r[CH3_MODE_STR], 27, 24), field(raster, 31, 28));
+    let bytes = |code: u32| {
+        let mut other = *r;
+        other[RASTER_MODE] = code << 28;
+        model::bytes_per_pixel(&other)
+    };
+    let alike = own != format && bytes(own) == bytes(format);
+    let faults = [!set(21), set(30), own != format, set(23), set(22), set(20), set(19), set(18)];
+    let good_pattern = third && !faults.contains(&true);
     let reasons = [
         (blt && mode == "undefined" && source_select != 0, "24 SM 11 with a source"),
         (blt && mode == "undefined" && source_select == 0, "24 SM 11 without a source"),
         (blt && source_select > 1, "24 SR"),
-        (blt && pattern_mode > 1, "24 PM of a BLT"),
-        (!blt && pattern_mode != 0, "24 PM of a vector"),
+        (blt && pattern_mode == 3 && !third, "24 PM 11 of a BLT"),
+        (blt && pattern_mode == 3 && third, "24 PM 11 under channel 3's pattern"),
+        (!blt && pattern_mode == 1, "24 PM 01 of a vector"),
+        (!blt && pattern_mode == 2, "24 PM 10 of a vector"),
+        (!blt && pattern_mode == 3, "24 PM 11 of a vector"),
         (!blt && inversion, "24 SI of a vector"),
         (!blt && transparency, "24 ST of a vector"),
         (blt && colour && inversion && source_select != 0, "24 SI on a colour source"),
         (blt && colour && transparency && source_select != 0, "24 ST on a colour source"),
         (blt && colour && inversion && source_select == 0, "24 SI with SM 00 and no source"),
         (blt && colour && transparency && source_select == 0, "24 ST with SM 00 and no source"),
-        (blt && field(raster, 12, 12) == 1, "24 PI of a BLT"),
-        (!blt && field(raster, 12, 12) == 1, "24 PI of a vector"),
+        (blt && pi && !colour_pattern, "24 PI of a BLT"),
+        (blt && pi && colour_pattern && !third, "24 PI on a colour pattern"),
+        (blt && pi && third, "24 PI on channel 3's pattern"),
+        (!blt && pi, "24 PI of a vector"),
         (blt && from_frame && mode == "unpacked" && x, "24 unpacked with X-"),
         (blt && from_frame && mode == "byte-packed" && x, "24 byte-packed with X-"),
         (blt && from_frame && mode == "byte-packed" && y, "24 byte-packed with Y-"),
-        (field(r[CH3_MODE_STR], 31, 31) == 1, "24 channel 3"),
+        (blt && third && faults[0], "24 channel 3 without pattern mode"),
+        (blt && third && faults[1], "24 channel 3 to the source"),
+        (blt && third && faults[2] && !alike, "24 channel 3 in another format"),
+        (blt && third && faults[2] && alike, "24 channel 3 in another format of the same depth"),
+        (blt && third && faults[3], "24 channel 3 with RO"),
+        (blt && third && faults[4], "24 channel 3 with BGR"),
+        (blt && third && faults[5], "24 channel 3 with PL"),
+        (blt && third && faults[6], "24 channel 3 with PE"),
+        (blt && third && faults[7], "24 channel 3 with HS"),
+        (!blt && third && !good_pattern, "24 channel 3 of a vector"),
+        (!blt && good_pattern, "24 channel 3's pattern of a vector"),
         (r[BASE_OFFSET] != 0, "24 BASE_OFFSET"),
     ];
     reasons.into_iter().filter(|(holds, _)| *holds).map(|(_, name)| name).collect()
@@ -771,16 +882,18 @@ fn reasons_for_24(kind: Kind, r: &Registers) -> Vec<&'static str> {
 
 /// The write pointer stands inside a command: its header waits, its last word does not.
 fn ends_inside(state: &State, ring: &[u32]) -> bool {
-    let mut at = state.read as usize;
-    let mut left = model::waiting(state);
-    while left > 0 {
-        match model::kind_of(ring[at]) {
-            Some(kind) if left < model::command_length(kind) => return true,
-            Some(kind) if !model::has_w(ring[at]) => {
-                at = (at + model::command_length(kind) as usize) % ring.len();
-                left -= model::command_length(kind);
-            }
-            _ => return false,
+    let mut state = *state;
+    while model::waiting(&state) > 0 {
+        let header = model::ring_word(&state, ring, 0);
+        let length = match model::kind_of(header) {
+            Some(kind) => Some(model::command_length(kind)),
+            None => tables::known_length(&state, ring).filter(|_| model::is_table_load(header)),
+        };
+        match length {
+            Some(length) if model::waiting(&state) < length => return true,
+            Some(length) if !model::has_w(header) => state.read = (state.read + length) % state.ring_len,
+            Some(_) => return false,
+            None => return model::is_table_load(header) && model::waiting(&state) < 3,
         }
     }
     false
@@ -792,7 +905,7 @@ impl Watch for Counts {
         if self.fresh {
             self.fresh = false;
             if let Some(place) = before.place.filter(|place| place.kind == Kind::Blt) {
-                self.taken_up(&before.registers, place.drawn);
+                self.taken_up(&before.registers, &before.table, place.drawn);
             }
         }
         if before.place.is_some() {
@@ -808,6 +921,8 @@ impl Watch for Counts {
         self.fresh = true;
         if let Word::Refused(number) = answer.word {
             self.hit(&number.to_string());
+            self.hit_if(number == 1 && ring.len() == 64, "1 at 64 words");
+            self.hit_if(number == 1 && ring.len() == 1_023, "1 at 1,023 words");
             if let Call::Publish(position) = call {
                 self.hit_if(number == 6 && position == before.read, "refused 6 at the read position");
                 self.hit_if(number == 6 && before.stop != 0, "refused 6 while stopped");
@@ -817,7 +932,10 @@ impl Watch for Counts {
         let drawing = before.place.is_some();
         let stopped = before.stop != 0;
         match call {
-            Call::Setup => self.hit("setup 0"),
+            Call::Setup => {
+                self.hit("setup 0");
+                self.hit_if(ring.len() == 1_024, "setup at 1,024 words");
+            }
             Call::Room => {
                 self.hit("room 0");
                 self.hit_if(drawing, "room while drawing");
@@ -825,6 +943,7 @@ impl Watch for Counts {
             }
             Call::Restart => {
                 self.hit("restart 0");
+                self.follow.restarted();
                 self.hit_if(before.read != before.write, "restart drops words");
             }
             Call::Publish(position) => {
@@ -866,6 +985,10 @@ impl Counts {
                 self.hit_if(answer.units == 0 && waiting == 0, "run on an empty ring");
                 if waiting > 0 {
                     let header = ring[after.read as usize];
+                    if model::is_table_load(header) {
+                        self.hit_all(tables::waits(after, ring));
+                        return;
+                    }
                     let length = model::kind_of(header).map_or(0, model::command_length);
                     self.hit_if(waiting < length, "part of a command waits");
                     self.hit_if(waiting >= length, "W waits for the ring's end");
@@ -883,6 +1006,8 @@ impl Counts {
                         let mono = model::source_selected(&after.registers) && mode_name(&after.registers) != "colour";
                         self.hit_if(place.kind == Kind::Blt && mono, &format!("spent inside {}", mode_name(&after.registers)));
                         let depth = model::bytes_per_pixel(&after.registers).unwrap_or(1);
+                        let colour = place.kind == Kind::Blt && model::pattern(&after.registers) == Pattern::Colour;
+                        self.hit_if(colour, &format!("spent inside {}", tables::with_article(&after.registers)));
                         let back = place.kind == Kind::Blt && model::x_negative(&after.registers) && depth > 1;
                         self.hit_if(back, &format!("spent inside X- {} bpp", 8 * depth));
                         if self.recording && place.kind == Kind::Blt && place.drawn % model::width(&after.registers) != 0 {

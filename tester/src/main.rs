@@ -10,6 +10,7 @@ mod programs;
 #[cfg(test)]
 mod shop;
 mod short_ways;
+mod tables;
 
 use cases::Rng;
 use counts::Counts;

@@ -1,7 +1,7 @@
-//! A second drawing engine, written from document 01 and requests W1 and W2 of document 02, to be read beside them.
+//! A second drawing engine, written from document 01 and requests W1, W2 and W4 of document 02, to be read beside them.
 //!
 //! It is slow on purpose: it works unit by unit, finds the bounds by going through every byte of every pixel, and does the raster
-//! operation bit by bit. The quotations are document 01's; W1's, W2's and the data book's (000) are named.
+//! operation bit by bit. The quotations are document 01's; W1's, W2's, W4's and the data book's (000) are named.
 
 // ---- Registers ------------------------------------------------------------------------------------------------------------------
 
@@ -25,8 +25,13 @@ pub const CH3_WIDHI: usize = 13;
 pub const BASE_OFFSET: usize = 14;
 pub const BLT_MODE: usize = 15;
 pub const VECTOR_MODE: usize = 16;
+/// W4: GP_LUT_INDEX, which kind 10 commands load. All its bits are kept; only 8:0 say a place in the table.
+pub const LUT_INDEX: usize = 17;
 
-pub type Registers = [u32; 17];
+pub type Registers = [u32; 18];
+
+/// W4: "the 512-word table"
+pub type Table = [u32; 512];
 
 /// "BLT, 17 words, enables 15:0": the register of each word after the header.
 pub const BLT_WORDS: [usize; 16] = [
@@ -40,6 +45,7 @@ pub const VECTOR_WORDS: [usize; 13] = [
     CH3_MODE_STR, BASE_OFFSET, VECTOR_MODE,
 ];
 
+/// The kinds that draw. A table load (kind 10) is no such command: see `is_table_load`.
 #[derive(Clone, Copy, PartialEq, Eq, Debug)]
 pub enum Kind {
     Blt,
@@ -54,7 +60,7 @@ pub fn words_of(kind: Kind) -> &'static [usize] {
     }
 }
 
-/// Words of a whole command, header included: 17 or 14.
+/// Words of a whole command of a kind that draws, header included: 17 or 14.
 pub fn command_length(kind: Kind) -> u32 {
     words_of(kind).len() as u32 + 1
 }
@@ -78,10 +84,12 @@ pub struct Place {
     pub drawn: i64,
 }
 
-/// "registers, two pointers, ring and frame lengths, completion number, stop number, and the place in a command being drawn, or none"
+/// "registers, two pointers, ring and frame lengths, completion number, stop number, and the place in a command being drawn, or none"; W4:
+/// "The state record now holds the table"
 #[derive(Clone, Copy, PartialEq, Eq, Debug)]
 pub struct State {
     pub registers: Registers,
+    pub table: Table,
     pub read: u32,
     pub write: u32,
     pub ring_len: u32,
@@ -92,8 +100,17 @@ pub struct State {
 }
 
 /// "a state of all zeros"
-pub const ZEROS: State =
-    State { registers: [0; 17], read: 0, write: 0, ring_len: 0, frame_len: 0, completion: 0, stop: 0, place: None };
+pub const ZEROS: State = State {
+    registers: [0; 18],
+    table: [0; 512],
+    read: 0,
+    write: 0,
+    ring_len: 0,
+    frame_len: 0,
+    completion: 0,
+    stop: 0,
+    place: None,
+};
 
 /// "Accepted, each answers 0 (a run its word)"; "A refused call answers its number".
 #[derive(Clone, Copy, PartialEq, Eq, Debug)]
@@ -139,10 +156,11 @@ pub fn room_of(state: &State) -> u32 {
 
 // ---- Calls ----------------------------------------------------------------------------------------------------------------------
 
-const RING_LENGTHS: std::ops::RangeInclusive<u32> = 64..=16_384;
+/// W4: "Number 1 now refuses rings below 1,024"
+const RING_LENGTHS: std::ops::RangeInclusive<u32> = 1_024..=16_384;
 const FRAME_LENGTHS: std::ops::RangeInclusive<u32> = 1..=16_777_216;
 
-/// "After setup all registers, pointers and the completion number are zero"
+/// "After setup all registers, pointers and the completion number are zero"; W4: "the table, zero after setup"
 pub fn setup(ring_len: u32, frame_len: u32) -> (State, Answer) {
     if !RING_LENGTHS.contains(&ring_len) {
         return (ZEROS, refused(1));
@@ -162,7 +180,7 @@ pub fn fit(state: &State) -> bool {
     if state.read >= state.ring_len || state.write >= state.ring_len {
         return false; // "a pointer not below ring size"
     }
-    if state.stop != 0 && !(21..=28).contains(&state.stop) {
+    if state.stop != 0 && !(21..=29).contains(&state.stop) {
         return false; // "a stop number that is neither 0 nor one of 21 and above in this table"
     }
     match state.place {
@@ -253,6 +271,7 @@ pub enum Unit {
     None,
     Refuse(u32),
     Load(Kind),
+    LoadTable,
     Pixel,
 }
 
@@ -265,20 +284,19 @@ pub fn next_unit(state: &State, ring: &[u32]) -> Unit {
         return Unit::None; // "Equal pointers mean empty."
     }
     // "21 and 22 are judged as soon as the header waits"
-    let header = ring[state.read as usize];
+    let header = ring_word(state, ring, 0);
+    if is_table_load(header) {
+        return next_of_table_load(state, ring);
+    }
     let kind = match kind_of(header) {
         Some(kind) if reserved_bits(kind, header) == 0 => kind,
         _ => return Unit::Refuse(21),
     };
     let length = command_length(kind);
-    if has_w(header) && (state.read == 0 || state.read + length > state.ring_len) {
+    if w_misplaced(state, header, length) {
         return Unit::Refuse(22);
     }
-    // "It is whole when all its words wait and, with W, when the words waiting also reach the ring's end."
-    if waiting(state) < length {
-        return Unit::None;
-    }
-    if has_w(header) && waiting(state) < state.ring_len - state.read {
+    if !whole(state, header, length) {
         return Unit::None;
     }
     // "23 to 28 only for commands that draw, on the registers as they would be after loading"
@@ -291,6 +309,46 @@ pub fn next_unit(state: &State, ring: &[u32]) -> Unit {
     Unit::Load(kind)
 }
 
+/// The unit for a table load whose header waits.
+fn next_of_table_load(state: &State, ring: &[u32]) -> Unit {
+    let header = ring_word(state, ring, 0);
+    if table_header_faults(header) != 0 {
+        return Unit::Refuse(21);
+    }
+    // W4: "judged as soon as three words wait and before 22, which for this kind waits for them too"
+    if waiting(state) < 3 {
+        return Unit::None;
+    }
+    let count_word = ring_word(state, ring, 2);
+    if !count_word_good(count_word) {
+        return Unit::Refuse(29);
+    }
+    let length = table_load_length(count_word);
+    if w_misplaced(state, header, length) {
+        return Unit::Refuse(22);
+    }
+    if !whole(state, header, length) {
+        return Unit::None;
+    }
+    Unit::LoadTable
+}
+
+/// 22: "W on a command that begins at ring word 0, or whose words run across the end"
+fn w_misplaced(state: &State, header: u32, length: u32) -> bool {
+    has_w(header) && (state.read == 0 || state.read + length > state.ring_len)
+}
+
+/// "It is whole when all its words wait and, with W, when the words waiting also reach the ring's end."
+fn whole(state: &State, header: u32, length: u32) -> bool {
+    if waiting(state) < length {
+        return false;
+    }
+    if has_w(header) && waiting(state) < state.ring_len - state.read {
+        return false;
+    }
+    true
+}
+
 fn do_unit(state: &mut State, ring: &[u32], frame: &mut [u8], unit: Unit) {
     match unit {
         Unit::None => {}
@@ -298,24 +356,26 @@ fn do_unit(state: &mut State, ring: &[u32], frame: &mut [u8], unit: Unit) {
         Unit::Refuse(number) => state.stop = number,
         // "Loading moves the read pointer and enabled registers."
         Unit::Load(kind) => {
-            let header = ring[state.read as usize];
+            let header = ring_word(state, ring, 0);
             state.registers = registers_after(state, ring, kind);
-            // "After it, read moves past it, or to 0 with W"
-            state.read = if has_w(header) {
-                0
-            } else {
-                modulo(i64::from(state.read) + i64::from(command_length(kind)), state.ring_len)
-            };
+            pass(state, header, command_length(kind));
             if draws(kind, header) {
                 state.place = Some(Place { kind, drawn: 0 });
             } else {
                 retire(state); // "or by its load if it draws nothing"
             }
         }
+        // one unit, whatever the count
+        Unit::LoadTable => {
+            let (header, count_word) = (ring_word(state, ring, 0), ring_word(state, ring, 2));
+            (state.registers, state.table) = table_after(state, ring);
+            pass(state, header, table_load_length(count_word));
+            retire(state); // it draws nothing
+        }
         Unit::Pixel => {
             if let Some(place) = state.place {
                 match place.kind {
-                    Kind::Blt => draw_blt_pixel(&state.registers, frame, place.drawn),
+                    Kind::Blt => draw_blt_pixel(&state.registers, &state.table, frame, place.drawn),
                     Kind::Vector => draw_vector_pixel(&state.registers, frame, place.drawn),
                 }
                 let drawn = place.drawn + 1;
@@ -330,12 +390,26 @@ fn do_unit(state: &mut State, ring: &[u32], frame: &mut [u8], unit: Unit) {
     }
 }
 
+/// "After it, read moves past it, or to 0 with W"
+fn pass(state: &mut State, header: u32, length: u32) {
+    state.read = if has_w(header) {
+        0
+    } else {
+        modulo(i64::from(state.read) + i64::from(length), state.ring_len)
+    };
+}
+
 /// "a u32 that wraps on purpose, from 4,294,967,295 to 0"
 fn retire(state: &mut State) {
     state.completion = state.completion.wrapping_add(1);
 }
 
 // ---- Command words --------------------------------------------------------------------------------------------------------------
+
+/// Word i of the command at the read pointer, its header being word 0. "A command may run across the ring's end."
+pub fn ring_word(state: &State, ring: &[u32], i: u32) -> u32 {
+    ring[modulo(i64::from(state.read) + i64::from(i), state.ring_len) as usize]
+}
 
 /// "bit 31 W (return to ring word 0 afterwards)"
 pub fn has_w(header: u32) -> bool {
@@ -369,15 +443,63 @@ pub fn draws(kind: Kind, header: u32) -> bool {
 
 /// "Bit i enables word i after the header, counted from 0; a clear bit means the word is present and skipped."
 pub fn registers_after(state: &State, ring: &[u32], kind: Kind) -> Registers {
-    let header = ring[state.read as usize];
+    let header = ring_word(state, ring, 0);
     let mut registers = state.registers;
     for (i, register) in words_of(kind).iter().enumerate() {
         if (header >> i) & 1 == 1 {
-            let position = modulo(i64::from(state.read) + 1 + i as i64, state.ring_len);
-            registers[*register] = ring[position as usize];
+            registers[*register] = ring_word(state, ring, 1 + i as u32);
         }
     }
     registers
+}
+
+// ---- Table loads ----------------------------------------------------------------------------------------------------------------
+
+/// W4: "kind 10 commands of Table 6-10: index, count word (DTYPE 011), then data"
+pub fn is_table_load(header: u32) -> bool {
+    field(header, 30, 29) == 0b10
+}
+
+/// The header bits that must be zero. Bit 0 enables the index; bit 1, of the count word, has no effect; S is bit 28.
+pub fn table_header_faults(header: u32) -> u32 {
+    field(header, 27, 2)
+}
+
+/// DCOUNT, the number of data words (000, Table 6-12)
+pub fn data_count(count_word: u32) -> u32 {
+    field(count_word, 15, 0)
+}
+
+/// W4, 29 turned round: "a DTYPE other than 011, a reserved bit set in the count word, or a count of 0 or above 512"
+pub fn count_word_good(count_word: u32) -> bool {
+    let data_type = field(count_word, 31, 29);
+    let reserved = field(count_word, 28, 16);
+    data_type == 0b011 && reserved == 0 && (1..=512).contains(&data_count(count_word))
+}
+
+/// Header, index and count word, then the data.
+pub fn table_load_length(count_word: u32) -> u32 {
+    3 + data_count(count_word)
+}
+
+/// The registers and the table as the table load at the read pointer leaves them. W4: "data into the 512-word table, the index's bits 8:0
+/// rising after each word and returning from 511 to 0"; "Header bit 0 enables the index."
+pub fn table_after(state: &State, ring: &[u32]) -> (Registers, Table) {
+    let (mut registers, mut table) = (state.registers, state.table);
+    if field(ring_word(state, ring, 0), 0, 0) == 1 {
+        registers[LUT_INDEX] = ring_word(state, ring, 1);
+    }
+    for i in 0..data_count(ring_word(state, ring, 2)) {
+        let at = table_place(&registers);
+        table[at as usize] = ring_word(state, ring, 3 + i);
+        registers[LUT_INDEX] = registers[LUT_INDEX] & !0x1FF | (at + 1) % 512;
+    }
+    (registers, table)
+}
+
+/// "only the 9 LSBs of the pointer are used to index" (000, 6.4.2.25)
+pub fn table_place(registers: &Registers) -> u32 {
+    field(registers[LUT_INDEX], 8, 0)
 }
 
 // ---- Judging --------------------------------------------------------------------------------------------------------------------
@@ -411,8 +533,9 @@ pub fn judge(kind: Kind, registers: &Registers, frame_len: u32) -> u32 {
     let source_bits = source_inversion(registers) || source_transparency(registers);
     match kind {
         Kind::Blt => {
+            // W4: 24 stops covering "a BLT's colour pattern", code 10; code 11 is not carried, under channel 3's pattern neither
             let source_select = field(mode, 1, 0);
-            if source_select > 1 || pattern_mode > 1 {
+            if source_select > 1 || pattern_mode == 0b11 {
                 return 24;
             }
             // W1: "keeps pattern inversion, and both source bits on vectors and colour modes, and takes mono from frame memory with
@@ -426,10 +549,13 @@ pub fn judge(kind: Kind, registers: &Registers, frame_len: u32) -> u32 {
             if refused {
                 return 24;
             }
+            if channel_3(registers) && !channel_3_is_pattern(registers) {
+                return 24;
+            }
         }
         Kind::Vector => {
-            // "a vector with a pattern that isn't solid"
-            if pattern_mode != 0 || source_bits {
+            // "a vector with a pattern that isn't solid, channel 3 enabled"
+            if pattern_mode != 0 || source_bits || channel_3(registers) {
                 return 24;
             }
         }
@@ -438,8 +564,7 @@ pub fn judge(kind: Kind, registers: &Registers, frame_len: u32) -> u32 {
     if pattern_inversion {
         return 24;
     }
-    let channel_3 = field(registers[CH3_MODE_STR], 31, 31) == 1;
-    if channel_3 || registers[BASE_OFFSET] != 0 {
+    if registers[BASE_OFFSET] != 0 {
         return 24;
     }
 
@@ -473,6 +598,23 @@ pub fn judge(kind: Kind, registers: &Registers, frame_len: u32) -> u32 {
         return 28;
     }
     0
+}
+
+/// CH3_MODE_STR's EN (000, 6.4.2.22)
+pub fn channel_3(registers: &Registers) -> bool {
+    field(registers[CH3_MODE_STR], 31, 31) == 1
+}
+
+/// W4: "24 keeps channel 3 enabled without that mode, steered to the source, in another format than RASTER_MODE's, or with further mode
+/// bits but X and Y set." The reserved bits 17:16 and the stride have no effect.
+fn channel_3_is_pattern(registers: &Registers) -> bool {
+    let mode = registers[CH3_MODE_STR];
+    let to_source = field(mode, 30, 30) == 1; // PS
+    let format = field(mode, 27, 24);
+    let rotation_and_bgr = field(mode, 23, 22); // RO, BGR
+    let pattern_mode = field(mode, 21, 21) == 1; // PM
+    let further = field(mode, 20, 18); // PL, PE, HS
+    pattern_mode && !to_source && format == field(registers[RASTER_MODE], 31, 28) && rotation_and_bgr == 0 && further == 0
 }
 
 /// Width times height of a BLT; "LENGTH pixels are drawn" of a vector.
@@ -589,7 +731,8 @@ pub fn blt_pixel(registers: &Registers, depth: i64, k: i64) -> BltPixel {
     let steps_y = if y_negative(registers) { -j } else { j };
     // W2: "with X negative the offset names the last byte of that pixel, for colour source and destination alike"
     let to_first_byte = if x_negative(registers) { 1 - depth } else { 0 };
-    let offset_register = registers[DST_OFFSET];
+    // 000, 6.4.2.21: for channel 3's pattern the "coordinate of starting pixel within color pattern memory" is in CH3_OFFSET
+    let offset_register = registers[if channel_3(registers) { CH3_OFFSET } else { DST_OFFSET }];
 
     // "Source pixels go the same way with their own offset and stride." 000, 6.4.2.4, for mono too: "Adding the GP_STRIDE to the
     // OFFSET gives the byte address for the first pixel of the next line of a BLT."
@@ -620,6 +763,41 @@ pub fn blt_pixel(registers: &Registers, depth: i64, k: i64) -> BltPixel {
     }
 }
 
+/// What a BLT's pattern is. W4: a colour pattern "by RASTER_MODE or, in place of any pattern there, by channel 3's pattern mode"
+#[derive(Clone, Copy, PartialEq, Eq, Debug)]
+pub enum Pattern {
+    Solid,
+    Mono,
+    Colour,
+    Undefined,
+}
+
+pub fn pattern(registers: &Registers) -> Pattern {
+    match field(registers[RASTER_MODE], 9, 8) {
+        _ if channel_3(registers) => Pattern::Colour,
+        0b00 => Pattern::Solid,
+        0b01 => Pattern::Mono,
+        0b10 => Pattern::Colour,
+        _ => Pattern::Undefined,
+    }
+}
+
+/// The table's word with the tile's upper left pixel.
+const TILE: i64 = 0x100;
+
+/// W4: "The tile is read as eight rows of eight colours from table words 100h to 13Fh, packed by depth". 000, 6.3.7: "The least significant
+/// byte of this first DWORD contains the upper left most pixel", "the pattern is packed into the space required to hold it".
+pub fn tile_colour(table: &Table, depth: i64, row: i64, column: i64) -> u32 {
+    let first = (8 * row + column) * depth;
+    let mut colour = 0;
+    for byte in 0..depth {
+        let at = first + byte;
+        let word = table[(TILE + at / 4) as usize];
+        colour |= ((word >> (8 * (at % 4))) & 0xFF) << (8 * byte);
+    }
+    colour
+}
+
 /// "PAT_DATA_0 holding rows 0 to 3 with row 0 in its lowest byte, PAT_DATA_1 rows 4 to 7, bit 7 leftmost"
 pub fn pattern_bit(registers: &Registers, row: i64, column: i64) -> bool {
     let data = if row < 4 { registers[PAT_DATA_0] } else { registers[PAT_DATA_1] };
@@ -633,7 +811,7 @@ pub fn stored_bit(frame: &[u8], pixel: &BltPixel) -> bool {
 }
 
 /// "Each pixel reads source, pattern and destination as memory then stands, and writes the destination."
-pub fn draw_blt_pixel(registers: &Registers, frame: &mut [u8], k: i64) {
+pub fn draw_blt_pixel(registers: &Registers, table: &Table, frame: &mut [u8], k: i64) {
     let raster = registers[RASTER_MODE];
     let depth = bytes_per_pixel(registers).unwrap_or(0);
     let pixel = blt_pixel(registers, depth, k);
@@ -650,14 +828,20 @@ pub fn draw_blt_pixel(registers: &Registers, frame: &mut [u8], k: i64) {
         // 000, 6.3.8.3: a clear bit gives GP_SRC_COLOR_BG, a set one GP_SRC_COLOR_FG
         if set { registers[SRC_COLOR_FG] } else { registers[SRC_COLOR_BG] }
     };
-    let mono = field(raster, 9, 8) == 1;
+    let mono = pattern(registers) == Pattern::Mono;
     let transparent = field(raster, 10, 10) == 1;
     // "Set gives PAT_COLOR_1, clear PAT_COLOR_0"
     let set = mono && pattern_bit(registers, pixel.pattern_row, pixel.pattern_column);
     if mono && transparent && !set {
-        return; // "with pattern transparency a clear bit writes nothing, yet costs its unit"
+        return; // "with pattern transparency a clear bit writes nothing, yet costs its unit"; W4: "has no effect" on a colour pattern
     }
-    let pattern = if set { registers[PAT_COLOR_1] } else { registers[PAT_COLOR_0] };
+    let pattern = if pattern(registers) == Pattern::Colour {
+        tile_colour(table, depth, pixel.pattern_row, pixel.pattern_column)
+    } else if set {
+        registers[PAT_COLOR_1]
+    } else {
+        registers[PAT_COLOR_0]
+    };
     let destination = read_pixel(frame, pixel.destination, depth);
     let result = raster_operation(field(raster, 7, 0), pattern, source, destination, 8 * depth);
     write_pixel(frame, pixel.destination, depth, result);

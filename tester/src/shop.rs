@@ -1,10 +1,12 @@
-//! Document 01's shop cases and its replay example, and cases of requests W1 to W3, asked of the model. Run by `rustc --test`.
+//! Document 01's shop cases and its replay example, with rings of 1,024 words as W4 restates them, and cases of requests W1 to W4, asked of
+//! the model. Run by `rustc --test`.
 
 use crate::model::*;
 use crate::programs::{crc32, replay, trace, Nobody};
 
 const W: u32 = 1 << 31;
 const DRAWING_BLT: u32 = 0xFFFF;
+const RING: usize = 1_024;
 
 /// A BLT with every enable set; registers that are not named are 0.
 fn blt(header: u32, values: &[(usize, u32)]) -> Vec<u32> {
@@ -20,15 +22,15 @@ fn fill(header: u32, offset: u32) -> Vec<u32> {
 }
 
 fn ring_with(at: usize, words: &[u32]) -> Vec<u32> {
-    let mut ring = vec![0; 64];
+    let mut ring = vec![0; RING];
     for (i, word) in words.iter().enumerate() {
-        ring[(at + i) % 64] = *word;
+        ring[(at + i) % RING] = *word;
     }
     ring
 }
 
 fn state_at(read: u32, write: u32, frame_len: u32) -> State {
-    State { read, write, ring_len: 64, frame_len, ..ZEROS }
+    State { read, write, ring_len: RING as u32, frame_len, ..ZEROS }
 }
 
 fn quiet_run(state: State, ring: &[u32], frame: &mut [u8], budget: u32) -> (State, Answer) {
@@ -115,9 +117,9 @@ fn font_registers(values: &[(usize, u32)]) -> Registers {
 fn draw_font(registers: Registers, frame: &mut [u8]) {
     let state = State { registers, place: Some(Place { kind: Kind::Blt, drawn: 0 }), ..state_at(0, 0, frame.len() as u32) };
     let count = pixel_count(Kind::Blt, &registers) as u32;
-    let (state, answer) = quiet_run(state, &[0; 64], frame, count - 1);
+    let (state, answer) = quiet_run(state, &[0; RING], frame, count - 1);
     assert_eq!((answer.word, answer.units, state.completion), (Word::Spent, count - 1, 0));
-    let (state, answer) = quiet_run(state, &[0; 64], frame, u32::MAX);
+    let (state, answer) = quiet_run(state, &[0; RING], frame, u32::MAX);
     assert_eq!((answer.word, answer.units, state.completion, state.place), (Word::Waiting, 1, 1, None));
 }
 
@@ -431,33 +433,345 @@ fn each_code_gives_itself() {
     }
 }
 
+// ---- W4: table loads ------------------------------------------------------------------------------------------------------------
+
+const TABLE_LOAD: u32 = 2 << 29;
+const INDEX: u32 = 1;
+const DATA: u32 = 3 << 29;
+
+/// A table load of the words 1, 2, 3 and so on.
+fn table_load(header: u32, index: u32, count: u32) -> Vec<u32> {
+    let mut words = vec![TABLE_LOAD | header, index, DATA | count];
+    words.extend(1..=count);
+    words
+}
+
+/// The first unit with these words at this place, all of them waiting or only the first few.
+fn first_unit(at: u32, words: &[u32], waiting: u32) -> Unit {
+    next_unit(&state_at(at, (at + waiting) % RING as u32, 16), &ring_with(at as usize, words))
+}
+
+/// Commands one behind the other from ring word 0, none refused, each retired by its one unit.
+fn after_loads(list: &[Vec<u32>]) -> State {
+    let words = list.concat();
+    let (state, answer) = quiet_run(state_at(0, words.len() as u32, 16), &ring_with(0, &words), &mut [0; 16], u32::MAX);
+    assert_eq!((answer.word, answer.units, state.completion), (Word::Waiting, list.len() as u32, list.len() as u32));
+    assert_eq!((state.read, state.place), (words.len() as u32, None));
+    state
+}
+
+#[test]
+fn index_and_data() {
+    // 511, two words: the index's other bits stay
+    let state = after_loads(&[table_load(INDEX, 0xABCD_EFFF, 2)]);
+    assert_eq!((state.table[511], state.table[0], state.table[1]), (1, 2, 0));
+    assert_eq!(state.registers[LUT_INDEX], 0xABCD_EE01);
+    let state = after_loads(&[table_load(INDEX, u32::MAX, 1)]);
+    assert_eq!((state.table[511], state.registers[LUT_INDEX]), (1, 0xFFFF_FE00));
+
+    // bit 0 clear: on where the last one ended; the index word is present and skipped
+    let state = after_loads(&[table_load(INDEX, 0x3FE, 3), table_load(0, 77, 2), table_load(2, 99, 1)]);
+    assert_eq!(state.table[..5], [3, 1, 2, 1, 0]);
+    assert_eq!((state.table[510], state.table[511], state.registers[LUT_INDEX]), (1, 2, 0x204));
+    // with nothing before it: at 0
+    assert_eq!(after_loads(&[table_load(0, 77, 1)]).table[..2], [1, 0]);
+
+    // 512 words: every word of the table, and the index where it was
+    let state = after_loads(&[table_load(INDEX, 300, 512)]);
+    assert_eq!((state.table[300], state.table[511], state.table[0], state.table[299]), (1, 212, 213, 512));
+    assert_eq!(state.registers[LUT_INDEX], 300);
+    // no other register moves
+    assert_eq!(state.registers[..LUT_INDEX], ZEROS.registers[..LUT_INDEX]);
+}
+
+#[test]
+fn header_bits_of_a_table_load() {
+    let with = |bits: u32| {
+        let state = after_loads(&[table_load(INDEX | bits, 0x100, 3)]);
+        (state.registers, state.table)
+    };
+    // bit 1 and S
+    assert!(with(0) == with(2) && with(0) == with(1 << 28) && with(0) == with(1 << 28 | 2));
+    for bit in 2..28 {
+        for waiting in [1, 2, 3, 6] {
+            // before 29 and 22
+            for (header, count) in [(0, 3), (W, 3), (INDEX, 513)] {
+                assert_eq!(first_unit(0, &table_load(header | 1 << bit, 0x100, count), waiting), Unit::Refuse(21));
+            }
+        }
+    }
+    assert_eq!(first_unit(0, &[3 << 29 | 1, 0, 0], 3), Unit::Refuse(21)); // kind 11
+}
+
+#[test]
+fn count_words() {
+    let judged = |count_word: u32, waiting: u32| {
+        let mut words = table_load(INDEX, 0, 0);
+        words[2] = count_word;
+        first_unit(5, &words, waiting)
+    };
+    for (count, wanted) in [(0, Unit::Refuse(29)), (1, Unit::None), (512, Unit::None), (513, Unit::Refuse(29)), (0xFFFF, Unit::Refuse(29))] {
+        assert_eq!(judged(DATA | count, 1), Unit::None);
+        assert_eq!(judged(DATA | count, 2), Unit::None);
+        assert_eq!(judged(DATA | count, 3), wanted);
+    }
+    assert_eq!((judged(DATA | 512, 514), judged(DATA | 512, 515)), (Unit::None, Unit::LoadTable));
+    assert_eq!((judged(DATA | 1, 3), judged(DATA | 1, 4)), (Unit::None, Unit::LoadTable));
+    for data_type in 0..8 {
+        assert_eq!(judged(data_type << 29 | 1, 4) == Unit::LoadTable, data_type == 3);
+        assert_eq!(judged(data_type << 29 | 1, 3) == Unit::Refuse(29), data_type != 3);
+    }
+    for bit in 16..29 {
+        assert_eq!(judged(DATA | 1 << bit | 1, 3), Unit::Refuse(29));
+    }
+}
+
+#[test]
+fn w_on_a_table_load() {
+    // at ring word 0: 22 with three words, not before; 29 comes first
+    let (good, bad) = (table_load(W | INDEX, 0, 2), table_load(W | INDEX, 0, 513));
+    for waiting in [1, 2] {
+        assert_eq!(first_unit(0, &good, waiting), Unit::None);
+        assert_eq!(first_unit(0, &bad, waiting), Unit::None);
+    }
+    for waiting in [3, 4, 5, 100] {
+        assert_eq!(first_unit(0, &good, waiting), Unit::Refuse(22));
+        assert_eq!(first_unit(0, &bad, waiting), Unit::Refuse(29));
+    }
+    // five words before the end and across it by one; the count word behind it
+    assert_eq!(first_unit(1_019, &good, 4), Unit::None);
+    assert_eq!(first_unit(1_019, &good, 5), Unit::LoadTable);
+    for at in [1_020, 1_022, 1_023] {
+        assert_eq!(first_unit(at, &good, 2), Unit::None);
+        assert_eq!(first_unit(at, &good, 3), Unit::Refuse(22));
+        assert_eq!(first_unit(at, &bad, 3), Unit::Refuse(29));
+    }
+    // without W: across the end
+    let words = table_load(INDEX, 0x100, 2);
+    for at in 1_020..1_024 {
+        let (state, answer) = quiet_run(state_at(at, at + 5 - 1_024, 16), &ring_with(at as usize, &words), &mut [0; 16], u32::MAX);
+        assert_eq!((answer.word, answer.units, state.read, state.completion), (Word::Waiting, 1, at + 5 - 1_024, 1));
+        assert_eq!(state.table[0x100..0x103], [1, 2, 0]);
+    }
+    // with W: waits for the ring's end, then read 0
+    let ring = ring_with(1_000, &good);
+    for write in 1_005..1_024 {
+        assert_eq!(next_unit(&state_at(1_000, write, 16), &ring), Unit::None);
+    }
+    let (state, answer) = quiet_run(state_at(1_000, 3, 16), &ring, &mut [0; 16], 1);
+    assert_eq!((answer.word, state.read, state.table[1]), (Word::Waiting, 0, 2));
+}
+
+/// "moves nothing but the stop number"; "all else stays" at a restart.
+#[test]
+fn a_refused_table_load_loads_nothing() {
+    let before = after_loads(&[table_load(INDEX, 0x100, 64)]);
+    for (header, count_word, wanted) in [(INDEX, DATA | 513, 29), (INDEX, 2 << 29 | 2, 29), (W | INDEX, DATA | 2, 22), (5, DATA | 2, 21)] {
+        let mut words = table_load(header, 0x120, 2);
+        words[2] = count_word;
+        let state = State { read: 1_021, write: 3, ..before };
+        let (stopped, answer) = quiet_run(state, &ring_with(1_021, &words), &mut [0; 16], u32::MAX);
+        assert_eq!((answer.word, answer.units), (Word::Stopped, 1));
+        assert_eq!(stopped, State { stop: wanted, ..state });
+        assert_eq!(restart(stopped).0, State { read: 3, ..state });
+    }
+}
+
+// ---- W4: colour patterns --------------------------------------------------------------------------------------------------------
+
+const COLOUR: u32 = 2 << 8;
+const PT: u32 = 1 << 10;
+const CH3_PATTERN: u32 = 1 << 31 | 1 << 21;
+
+/// One pixel of a colour pattern with these low bits, 5Ah over byte 33h: its bytes, after the table was loaded through the ring.
+fn tile_pixel(format: u32, depth: i64, word: u32, value: u32, low_bits: u32) -> Vec<u8> {
+    let pixel = [
+        (RASTER_MODE, format | COLOUR | 0x5A),
+        (DST_OFFSET, low_bits << 26),
+        (WID_HEIGHT, 1 << 16 | 1),
+    ];
+    let mut words = vec![TABLE_LOAD | INDEX, word, DATA | 1, value];
+    words.extend(blt(DRAWING_BLT, &pixel));
+    let mut frame = vec![0x33; depth as usize];
+    assert_eq!(draw(&words, &mut frame), 0);
+    frame.iter().map(|byte| byte ^ 0x33).collect()
+}
+
+/// 000, 6.3.7: the corners of the tile, at each depth.
+#[test]
+fn corners_of_the_tile() {
+    let value = 0x4433_2211u32;
+    let whole = |low: u32| value.to_le_bytes()[low as usize..].to_vec();
+    // row and column in the low bits, table word, first byte of the pixel in it
+    for (format, depth, corners) in [
+        (0, 1, [(0, 0x100, 0), (7, 0x101, 3), (7 << 3, 0x10E, 0), (63, 0x10F, 3)]),
+        (6 << 28, 2, [(0, 0x100, 0), (7, 0x103, 2), (7 << 3, 0x11C, 0), (63, 0x11F, 2)]),
+        (8 << 28, 4, [(0, 0x100, 0), (7, 0x107, 0), (7 << 3, 0x138, 0), (63, 0x13F, 0)]),
+    ] {
+        for (low_bits, word, byte) in corners {
+            assert_eq!(tile_pixel(format, depth, word, value, low_bits), whole(byte)[..depth as usize]);
+            // no other word of the table
+            for other in [word - 0x100, word - 1, word ^ 0x80, 0x140] {
+                assert_eq!(tile_pixel(format, depth, other, value, low_bits), vec![0; depth as usize]);
+            }
+        }
+    }
+}
+
+/// A tile of 64 bytes, its upper left pixel 1; at 8 bits, rows and columns in all directions.
+fn counting_tile() -> Table {
+    let mut table = [0xEEEE_EEEE; 512];
+    for at in 0..16 {
+        table[0x100 + at] = u32::from_le_bytes(std::array::from_fn(|byte| (4 * at + byte) as u8 + 1));
+    }
+    table
+}
+
+/// Three rows of three pixels at 8 bits: what they become over zeros, row by row from the top left.
+fn three_by_three(raster: u32, destination_bits: u32, channel_3: u32, its_bits: u32, mode: u32) -> Vec<u8> {
+    let first = if mode & X_NEGATIVE != 0 { 2 } else { 0 } + if mode & Y_NEGATIVE != 0 { 6 } else { 0 };
+    let mut registers = ZEROS.registers;
+    for (register, value) in [
+        (RASTER_MODE, raster | 0xF0),
+        (DST_OFFSET, destination_bits << 26 | first),
+        (STRIDE, 3),
+        (WID_HEIGHT, 3 << 16 | 3),
+        (PAT_COLOR_0, 0x71),
+        (PAT_COLOR_1, 0x72),
+        (PAT_DATA_0, 0x5555_5555),
+        (CH3_MODE_STR, channel_3),
+        (CH3_OFFSET, its_bits << 26 | 0x3FF_FFFF),
+        (BLT_MODE, mode),
+    ] {
+        registers[register] = value;
+    }
+    let place = Some(Place { kind: Kind::Blt, drawn: 0 });
+    let state = State { registers, place, table: counting_tile(), ..state_at(0, 0, 9) };
+    let mut frame = vec![0; 9];
+    let (state, answer) = quiet_run(state, &[0; RING], &mut frame, u32::MAX);
+    assert_eq!((answer.word, answer.units, state.completion), (Word::Waiting, 9, 1));
+    frame
+}
+
+#[test]
+fn rows_and_columns_of_the_tile() {
+    let (row, column) = (6, 7);
+    let bits = row << 3 | column;
+    for mode in DIRECTIONS {
+        let step = |negative: u32, i: u32| if mode & negative != 0 { i + 6 } else { i };
+        let mut wanted: Vec<u8> = Vec::new();
+        for j in 0..3 {
+            for i in 0..3 {
+                // counted from the first pixel, which is the right or the lower one where X or Y is negative
+                wanted.push((8 * ((row + step(Y_NEGATIVE, j)) % 8) + (column + step(X_NEGATIVE, i)) % 8 + 1) as u8);
+            }
+        }
+        // from DST_OFFSET's low bits; with transparency
+        for raster in [COLOUR, COLOUR | PT] {
+            assert_eq!(three_by_three(raster, bits, 0, 0o25, mode), wanted);
+            assert_eq!(three_by_three(raster, bits, 0x7FFF_FFFF, 0o25, mode), wanted); // channel 3 off
+        }
+        // in place of any pattern, from CH3_OFFSET's; its X, Y, reserved bits and stride do nothing
+        for raster in [0, PT, 1 << 8, 1 << 8 | PT, COLOUR, COLOUR | PT] {
+            for idle in [0, 1 << 29, 1 << 28, 3 << 28, 3 << 16, 0xFFFF] {
+                assert_eq!(three_by_three(raster, 0o25, CH3_PATTERN | idle, bits, mode), wanted);
+            }
+        }
+    }
+}
+
+#[test]
+fn colour_patterns_and_24() {
+    let number = |kind: Kind, raster: u32, channel_3: u32| {
+        let values = [(RASTER_MODE, raster | 0xF0), (WID_HEIGHT, 1 << 16 | 1), (CH3_MODE_STR, channel_3), (DST_OFFSET, 8)];
+        judge(kind, &font_registers(&values), 16)
+    };
+    for (format, _) in DEPTHS {
+        let pattern = CH3_PATTERN | format >> 4;
+        for mode in 0..4 {
+            let (raster, wanted) = (format | mode << 8, if mode == 3 { 24 } else { 0 });
+            assert_eq!(number(Kind::Blt, raster, 0), wanted);
+            assert_eq!(number(Kind::Blt, raster, pattern), wanted);
+            assert_eq!(number(Kind::Blt, raster | PI, pattern), 24);
+            assert_eq!(number(Kind::Vector, raster, 0), if mode == 0 { 0 } else { 24 });
+            assert_eq!(number(Kind::Vector, raster, pattern), 24);
+        }
+        // X and Y, the reserved bits and the stride; each other bit
+        for bit in 0..31 {
+            let good = [29, 28].contains(&bit) || bit < 18;
+            assert_eq!(number(Kind::Blt, format, pattern ^ 1 << bit), if good { 0 } else { 24 }, "bit {bit}");
+            assert_eq!(number(Kind::Blt, format, (pattern ^ 1 << bit) & !W), 0);
+            assert_eq!(number(Kind::Vector, format, (pattern ^ 1 << bit) & !W), 0);
+        }
+    }
+    // the four-bit codes: another format of the same depth
+    for (ours, its) in [(4, 5), (5, 6), (6, 4), (0, 8), (8, 0)] {
+        assert_eq!(number(Kind::Blt, ours << 28, CH3_PATTERN | its << 24), 24);
+        assert_eq!(number(Kind::Blt, ours << 28, CH3_PATTERN | ours << 24), 0);
+    }
+}
+
+/// A copy under a colour pattern, and text over one that is transparent: the source as ever.
+#[test]
+fn sources_under_a_colour_pattern() {
+    // code 66h reads source and destination, 5Ah pattern and destination, 96h all three
+    for (code, wanted) in [(0x66, [4, 7]), (0x5A, [1 ^ 1, 2 ^ 2]), (0x96, [4 ^ 1, 7 ^ 2])] {
+        let values = [
+            (RASTER_MODE, COLOUR | PT | code),
+            (SRC_OFFSET, 2),
+            (WID_HEIGHT, 2 << 16 | 1),
+            (BLT_MODE, FRAME_MEMORY),
+        ];
+        let mut words = vec![TABLE_LOAD | INDEX, 0x100, DATA | 1, 0x0201];
+        words.extend(blt(DRAWING_BLT, &values));
+        let mut frame = [1, 2, 5, 5];
+        assert_eq!(draw(&words, &mut frame), 0);
+        assert_eq!(frame[..2], wanted);
+    }
+    let values = [
+        (RASTER_MODE, ST | 0xF0),
+        (SRC_OFFSET, 4),
+        (WID_HEIGHT, 4 << 16 | 1),
+        (CH3_MODE_STR, CH3_PATTERN),
+        (CH3_OFFSET, 1 << 26),
+        (BLT_MODE, UNPACKED | FRAME_MEMORY),
+    ];
+    let mut words = vec![TABLE_LOAD | INDEX, 0x100, DATA | 2, 0x4433_2211, 0x8877_6655];
+    words.extend(blt(DRAWING_BLT, &values));
+    let mut frame = [0, 0, 0, 0, 0b1011_0000];
+    assert_eq!(draw(&words, &mut frame), 0);
+    assert_eq!(frame[..4], [0x22, 0, 0x44, 0x55]);
+}
+
 // ---- The ring and the programs --------------------------------------------------------------------------------------------------
 
 #[test]
-fn ring_of_64() {
-    assert_eq!(setup(64, 16).1, Answer { word: Word::Zero, units: 0, room: 63 });
-    let full = state_at(0, 63, 16);
+fn ring_of_1024() {
+    assert_eq!(setup(1_024, 16).1, Answer { word: Word::Zero, units: 0, room: 1_023 });
+    let full = state_at(0, 1_023, 16);
     assert_eq!(room(full).1.room, 0);
     assert_eq!(publish(full, 0), (full, Answer { word: Word::Refused(6), units: 0, room: 0 }));
-    assert_eq!(publish(full, 63).1.word, Word::Zero);
-    assert_eq!(publish(full, 64).1.word, Word::Refused(5));
+    assert_eq!(publish(full, 1_023).1.word, Word::Zero);
+    assert_eq!(publish(full, 1_024).1.word, Word::Refused(5));
 
-    // read 50, BLT, write 3: 17 waiting, whole; the same with W: 22
-    let across = state_at(50, 3, 16);
+    // read 1,010, BLT, write 3: 17 waiting, whole; the same with W: 22
+    let across = state_at(1_010, 3, 16);
     assert_eq!(waiting(&across), 17);
-    assert_eq!(next_unit(&across, &ring_with(50, &fill(DRAWING_BLT, 0))), Unit::Load(Kind::Blt));
-    assert_eq!(next_unit(&across, &ring_with(50, &fill(DRAWING_BLT | W, 0))), Unit::Refuse(22));
+    assert_eq!(next_unit(&across, &ring_with(1_010, &fill(DRAWING_BLT, 0))), Unit::Load(Kind::Blt));
+    assert_eq!(next_unit(&across, &ring_with(1_010, &fill(DRAWING_BLT | W, 0))), Unit::Refuse(22));
 
-    // read 40, BLT with W, write 57: waiting; write 0: done, read 0
-    let ring = ring_with(40, &fill(DRAWING_BLT | W, 0));
-    for write in 57..64 {
-        let (state, answer) = quiet_run(state_at(40, write, 16), &ring, &mut [0; 16], u32::MAX);
-        assert_eq!((answer.word, answer.units, state.read), (Word::Waiting, 0, 40));
+    // read 40 or 1,000, BLT with W, write behind it and up to the last word: waiting; write 0: done, read 0
+    for read in [40, 1_000] {
+        let ring = ring_with(read as usize, &fill(DRAWING_BLT | W, 0));
+        for write in read + 17..1_024 {
+            let (state, answer) = quiet_run(state_at(read, write, 16), &ring, &mut [0; 16], u32::MAX);
+            assert_eq!((answer.word, answer.units, state.read), (Word::Waiting, 0, read));
+        }
+        let mut frame = [0; 16];
+        let (state, answer) = quiet_run(state_at(read, 0, 16), &ring, &mut frame, u32::MAX);
+        assert_eq!((answer.word, answer.units, answer.room, state.read, state.completion), (Word::Waiting, 5, 1_023, 0, 1));
+        assert_eq!(frame[..5], [0x5A, 0x5A, 0x5A, 0x5A, 0]);
     }
-    let mut frame = [0; 16];
-    let (state, answer) = quiet_run(state_at(40, 0, 16), &ring, &mut frame, u32::MAX);
-    assert_eq!((answer.word, answer.units, answer.room, state.read, state.completion), (Word::Waiting, 5, 63, 0, 1));
-    assert_eq!(frame[..5], [0x5A, 0x5A, 0x5A, 0x5A, 0]);
 }
 
 #[test]
@@ -481,13 +795,15 @@ fn frame_of_16() {
 #[test]
 fn completion_wraps() {
     let state = State { completion: u32::MAX, ..state_at(0, 17, 16) };
-    let (state, _) = quiet_run(state, &[0; 64], &mut [0; 16], u32::MAX);
+    let (state, _) = quiet_run(state, &[0; RING], &mut [0; 16], u32::MAX);
     assert_eq!((state.completion, state.read), (0, 17));
 }
 
 #[test]
 fn rows_1_to_4() {
-    for (ring_len, frame_len, wanted) in [(63, 1, 1), (16_385, 0, 1), (64, 0, 2), (16_384, 16_777_217, 2)] {
+    for (ring_len, frame_len, wanted) in
+        [(0, 0, 1), (64, 1, 1), (1_023, 1, 1), (16_385, 0, 1), (1_024, 0, 2), (16_384, 16_777_217, 2)]
+    {
         let (state, answer) = setup(ring_len, frame_len);
         assert_eq!((state, answer), (ZEROS, Answer { word: Word::Refused(wanted), units: 0, room: 0 }));
     }
@@ -497,15 +813,17 @@ fn rows_1_to_4() {
         state.registers[WID_HEIGHT] = 4 << 16 | 1;
         State { place: Some(Place { kind: Kind::Blt, drawn }), ..state }
     };
-    assert!(fit(&good) && fit(&drawing(0)) && fit(&drawing(3)) && fit(&State { stop: 28, ..good }));
+    assert!(fit(&good) && fit(&drawing(0)) && fit(&drawing(3)) && fit(&State { stop: 29, ..good }));
+    assert!(fit(&State { table: [u32::MAX; 512], ..drawing(3) }));
     let unfit = [
         ZEROS,
-        State { ring_len: 63, ..good },
+        State { ring_len: 64, ..good },
+        State { ring_len: 1_023, ..good },
         State { frame_len: 0, ..good },
-        State { read: 64, ..good },
-        State { write: 64, ..good },
+        State { read: 1_024, ..good },
+        State { write: 1_024, ..good },
         State { stop: 20, ..good },
-        State { stop: 29, ..good },
+        State { stop: 30, ..good },
         State { stop: 21, ..drawing(0) },
         State { frame_len: 3, ..drawing(0) },
         drawing(4),
@@ -514,10 +832,10 @@ fn rows_1_to_4() {
         assert_eq!(publish(state, 0).1.word, Word::Refused(3));
         assert_eq!(room(state).1.word, Word::Refused(3));
         assert_eq!(restart(state).1.word, Word::Refused(3));
-        assert_eq!(quiet_run(state, &[0; 64], &mut [0; 16], 1).1.word, Word::Refused(3));
+        assert_eq!(quiet_run(state, &[0; RING], &mut [0; 16], 1).1.word, Word::Refused(3));
     }
-    assert_eq!(quiet_run(good, &[0; 65], &mut [0; 16], 1).1.word, Word::Refused(4));
-    assert_eq!(quiet_run(good, &[0; 64], &mut [0; 15], 1).1.word, Word::Refused(4));
+    assert_eq!(quiet_run(good, &[0; RING + 1], &mut [0; 16], 1).1.word, Word::Refused(4));
+    assert_eq!(quiet_run(good, &[0; RING], &mut [0; 15], 1).1.word, Word::Refused(4));
 }
 
 #[test]
@@ -526,8 +844,9 @@ fn replay_example() {
         DRAWING_BLT,
         &[(RASTER_MODE, 0xF0), (DST_OFFSET, 10), (STRIDE, 16), (WID_HEIGHT, 4 << 16 | 2), (PAT_COLOR_0, 0x5A)],
     );
-    let mut input: Vec<u8> = [64u32, 64, 17, 100].iter().flat_map(|word| word.to_le_bytes()).collect();
+    let mut input: Vec<u8> = [1_024u32, 64, 17, 100].iter().flat_map(|word| word.to_le_bytes()).collect();
     input.extend(ring_with(0, &words).iter().flat_map(|word| word.to_le_bytes()));
+    assert_eq!(input.len(), 4 * 1_028);
     let (lines, frame) = replay(&input, &mut Nobody);
     assert_eq!(lines, "retired=1\nunits=9\nread=17\nwrite=17\nstate=waiting\nrefusal=0\n");
     for (at, byte) in frame.iter().enumerate() {
@@ -537,8 +856,13 @@ fn replay_example() {
     input.push(0);
     assert_eq!(replay(&input, &mut Nobody), ("recording=bad\n".to_string(), Vec::new()));
 
+    // with the ring of 64 words that it had
+    input.truncate(4 * 68);
+    input[..4].copy_from_slice(&64u32.to_le_bytes());
+    assert_eq!(replay(&input, &mut Nobody).0, "retired=0\nunits=0\nread=0\nwrite=0\nstate=refused\nrefusal=1\n");
+
     // the same by a trace
-    let mut records = vec![64u32, 64];
+    let mut records = vec![1_024u32, 64];
     for (at, word) in words.iter().enumerate() {
         records.extend([0, at as u32, *word]);
     }
@@ -547,7 +871,7 @@ fn replay_example() {
     let lines = trace(&input, &mut Nobody);
     assert_eq!(
         lines.lines().nth(2),
-        Some("call=run answer=waiting units=9 room=63 read=17 write=17 retired=1 stop=0 drawing=none")
+        Some("call=run answer=waiting units=9 room=1023 read=17 write=17 retired=1 stop=0 drawing=none")
     );
     assert_eq!(lines.lines().nth(3), Some(format!("frame_crc32={:08x}", crc32(&frame)).as_str()));
 }

@@ -7,7 +7,7 @@
 
 use crate::cases::span;
 use crate::counts::reads_source;
-use crate::model::{self, field, Kind, Registers, SourceMode};
+use crate::model::{self, field, Kind, Pattern, Registers, SourceMode, Table};
 use crate::model::{PAT_COLOR_0, PAT_COLOR_1, RASTER_MODE, SRC_COLOR_BG, SRC_COLOR_FG};
 use std::collections::BTreeSet;
 
@@ -51,7 +51,8 @@ pub const NEEDED: &[Each] = &[
         x: &["X+", "X-"],
         names: &[
             "with a colour source", "with a colour source under a mono pattern", "with a colour source under a transparent pattern",
-            "with no source", "with no source under a mono pattern", "with no source under a transparent pattern",
+            "with a colour source under a colour pattern", "with no source", "with no source under a mono pattern",
+            "with no source under a transparent pattern", "with no source under a colour pattern",
         ],
     },
     Each {
@@ -76,7 +77,7 @@ pub const NEEDED: &[Each] = &[
     },
     Each {
         group: "rows",
-        of: &["copy:", "other code:", "fill:", "XOR:", "mono pattern:", "sourceless:"],
+        of: &["copy:", "other code:", "fill:", "XOR:", "mono pattern:", "colour pattern:", "sourceless:"],
         bits: &[8, 16, 32],
         x: &["X+", "X-"],
         names: &[
@@ -118,10 +119,11 @@ pub fn at_depth(r: &Registers, name: &str) -> String {
 }
 
 /// The ways that BLTs may be drawn, each by a short way of its own or by none.
-pub const WAYS: [&str; 7] = ["copy", "other code", "text", "fill", "XOR", "mono pattern", "sourceless"];
+pub const WAYS: [&str; 8] = ["copy", "other code", "text", "fill", "XOR", "mono pattern", "sourceless", "colour pattern"];
 pub const OTHER_CODE: usize = 1;
 pub const TEXT: usize = 2;
 pub const MONO_PATTERN: usize = 5;
+pub const COLOUR_PATTERN: usize = 7;
 
 /// Rows of these many bytes, and longer ones, must come up for each way.
 pub const ROW_LENGTHS: [i64; 13] = [1, 7, 8, 9, 15, 16, 17, 31, 32, 33, 63, 64, 65];
@@ -131,19 +133,25 @@ pub const PLAIN: [u32; 3] = [0xCC, 0xF0, 0x5A];
 
 /// The pattern is mono, and transparent.
 fn pattern_bits(r: &Registers) -> (bool, bool) {
-    let mono = field(r[RASTER_MODE], 9, 8) == 1;
+    let mono = model::pattern(r) == Pattern::Mono;
     (mono, mono && field(r[RASTER_MODE], 10, 10) == 1)
+}
+
+/// False if the code gives the same for both pattern bits.
+pub fn reads_pattern(r: &Registers) -> bool {
+    let code = field(r[RASTER_MODE], 7, 0);
+    code >> 4 != code & 0xF
 }
 
 /// The number of the BLT's way in the list.
 pub fn way(r: &Registers) -> usize {
     let code = field(r[RASTER_MODE], 7, 0);
     let (mono, transparent) = pattern_bits(r);
-    let reads_pattern = code >> 4 != code & 0xF;
     match model::source_mode(r) {
         SourceMode::Colour if model::source_selected(r) && reads_source(r) => usize::from(code != 0xCC || transparent),
         SourceMode::Unpacked | SourceMode::BytePacked if model::source_selected(r) => TEXT,
-        _ if transparent || mono && reads_pattern => MONO_PATTERN,
+        _ if transparent || mono && reads_pattern(r) => MONO_PATTERN,
+        _ if model::pattern(r) == Pattern::Colour && reads_pattern(r) => COLOUR_PATTERN,
         _ if code == 0xF0 => 3,
         _ if code == 0x5A => 4,
         _ => 6,
@@ -154,7 +162,7 @@ pub fn way(r: &Registers) -> usize {
 const FOLLOWED: i64 = 1_000;
 
 /// The kinds of this BLT, without depth and direction; frame memory as the BLT finds it.
-pub fn kinds(r: &Registers, frame: &[u8]) -> BTreeSet<String> {
+pub fn kinds(r: &Registers, table: &Table, frame: &[u8]) -> BTreeSet<String> {
     let mut kinds = BTreeSet::new();
     let depth = model::bytes_per_pixel(r).unwrap_or(1);
     let row = depth * model::width(r);
@@ -172,16 +180,16 @@ pub fn kinds(r: &Registers, frame: &[u8]) -> BTreeSet<String> {
     if model::height(r) > 1 && (1..row).contains(&model::destination_stride(r)) {
         kinds.insert(format!("{name}: rows that share bytes"));
     }
-    plain_code(r, &mut kinds);
+    plain_code(r, table, &mut kinds);
     let (_, transparent) = pattern_bits(r);
     if way(r) == MONO_PATTERN && row > 32 && model::width(r) > 8 && shows_pattern(r) {
         kinds.insert(format!("{name}: {}rows over 8 pixels and 32 bytes", if transparent { "transparent " } else { "" }));
     }
     if way(r) == TEXT {
-        text(r, frame, &mut kinds);
+        text(r, table, frame, &mut kinds);
     }
     if way(r) <= OTHER_CODE && !transparent {
-        colour_source(r, frame, name, &mut kinds);
+        colour_source(r, table, frame, name, &mut kinds);
     }
     kinds
 }
@@ -202,8 +210,22 @@ fn shows_pattern(r: &Registers) -> bool {
     set && clear && (pattern_bits(r).1 || field(r[PAT_COLOR_0] ^ r[PAT_COLOR_1], bits - 1, 0) != 0)
 }
 
+/// The colour pattern has more than one colour in the rectangle.
+pub fn many_colours(r: &Registers, table: &Table) -> bool {
+    let depth = model::bytes_per_pixel(r).unwrap_or(1);
+    let (width, height) = (model::width(r), model::height(r));
+    let mut colours = BTreeSet::new();
+    for j in 0..height.min(8) {
+        for i in 0..width.min(8) {
+            let pixel = model::blt_pixel(r, depth, j * width + i);
+            colours.insert(model::tile_colour(table, depth, pixel.pattern_row, pixel.pattern_column));
+        }
+    }
+    colours.len() > 1
+}
+
 /// CCh, F0h and 5Ah with each source but text, and each pattern.
-fn plain_code(r: &Registers, kinds: &mut BTreeSet<String>) {
+fn plain_code(r: &Registers, table: &Table, kinds: &mut BTreeSet<String>) {
     let code = field(r[RASTER_MODE], 7, 0);
     let source = match (model::source_selected(r), model::source_mode(r)) {
         (false, _) => "no",
@@ -211,6 +233,8 @@ fn plain_code(r: &Registers, kinds: &mut BTreeSet<String>) {
         _ => return,
     };
     let pattern = match pattern_bits(r) {
+        _ if model::pattern(r) == Pattern::Colour && !many_colours(r, table) => return,
+        _ if model::pattern(r) == Pattern::Colour => " under a colour pattern",
         (false, _) => "",
         _ if !shows_pattern(r) => return,
         (true, false) => " under a mono pattern",
@@ -222,7 +246,7 @@ fn plain_code(r: &Registers, kinds: &mut BTreeSet<String>) {
 }
 
 /// Text by CCh, F0h and 5Ah, where the font's bits make a difference.
-fn text(r: &Registers, frame: &[u8], kinds: &mut BTreeSet<String>) {
+fn text(r: &Registers, table: &Table, frame: &[u8], kinds: &mut BTreeSet<String>) {
     let code = field(r[RASTER_MODE], 7, 0);
     let transparent = model::source_transparency(r);
     if !PLAIN.contains(&code) || !transparent && !reads_source(r) {
@@ -259,7 +283,7 @@ fn text(r: &Registers, frame: &[u8], kinds: &mut BTreeSet<String>) {
         if (held >> pixel.source_bit & 1 == 1) != bit {
             take("a font byte changed between its bits");
         }
-        model::draw_blt_pixel(r, &mut now, k);
+        model::draw_blt_pixel(r, table, &mut now, k);
     }
     if transparent && set && clear {
         take(if model::y_negative(r) { "set and transparent pixels, Y-" } else { "set and transparent pixels, Y+" });
@@ -267,7 +291,7 @@ fn text(r: &Registers, frame: &[u8], kinds: &mut BTreeSet<String>) {
 }
 
 /// How a colour source and the drawn rows meet.
-fn colour_source(r: &Registers, frame: &[u8], name: &str, kinds: &mut BTreeSet<String>) {
+fn colour_source(r: &Registers, table: &Table, frame: &[u8], name: &str, kinds: &mut BTreeSet<String>) {
     let mut take = |kind: String| kinds.insert(format!("{name}: {kind}"));
     let depth = model::bytes_per_pixel(r).unwrap_or(1);
     let (width, height) = (model::width(r), model::height(r));
@@ -318,7 +342,7 @@ fn colour_source(r: &Registers, frame: &[u8], name: &str, kinds: &mut BTreeSet<S
                 before[at] = now[at];
             }
         }
-        model::draw_blt_pixel(r, &mut now, k);
+        model::draw_blt_pixel(r, table, &mut now, k);
     }
     if across && !met_in_row {
         take(format!("overtakes across rows alone, Y{}", if model::y_negative(r) { "-" } else { "+" }));
@@ -352,7 +376,7 @@ fn colour_source(r: &Registers, frame: &[u8], name: &str, kinds: &mut BTreeSet<S
 }
 
 /// Pattern, source and destination of a BLT's pixel, as memory then stands; none for a transparent one.
-pub fn operands(r: &Registers, frame: &[u8], k: i64) -> Option<[u32; 3]> {
+pub fn operands(r: &Registers, table: &Table, frame: &[u8], k: i64) -> Option<[u32; 3]> {
     let depth = model::bytes_per_pixel(r).unwrap_or(1);
     let pixel = model::blt_pixel(r, depth, k);
     let value = |first: i64| (0..depth).fold(0, |value, byte| value | u32::from(frame[(first + byte) as usize]) << (8 * byte));
@@ -368,5 +392,9 @@ pub fn operands(r: &Registers, frame: &[u8], k: i64) -> Option<[u32; 3]> {
     if transparent && !set {
         return None;
     }
-    Some([r[if set { PAT_COLOR_1 } else { PAT_COLOR_0 }], source, value(pixel.destination)])
+    let pattern = match model::pattern(r) {
+        Pattern::Colour => model::tile_colour(table, depth, pixel.pattern_row, pixel.pattern_column),
+        _ => r[if set { PAT_COLOR_1 } else { PAT_COLOR_0 }],
+    };
+    Some([pattern, source, value(pixel.destination)])
 }
