@@ -1,8 +1,8 @@
 //! A BLT: what its registers describe, its bounds, and its rows by the fastest way that gives the same bytes.
 
-use crate::engine::{bad_both, depth_of, Registers};
-use crate::engine::{BLT_MODE, DST_OFFSET, PAT_COLOR_0, PAT_COLOR_1, PAT_DATA_0, PAT_DATA_1, RASTER_MODE};
-use crate::engine::{SRC_COLOR_BG, SRC_COLOR_FG, SRC_OFFSET, STRIDE, WID_HEIGHT};
+use crate::engine::{bad_both, depth_of, Registers, Table};
+use crate::engine::{BLT_MODE, CH3_MODE_STR, CH3_OFFSET, DST_OFFSET, PAT_COLOR_0, PAT_COLOR_1, PAT_DATA_0, PAT_DATA_1};
+use crate::engine::{RASTER_MODE, SRC_COLOR_BG, SRC_COLOR_FG, SRC_OFFSET, STRIDE, WID_HEIGHT};
 use crate::order::{self, Pair};
 use crate::raster::{self, Flat, FlatTile, Operation, Rop, RopTile, Tile};
 use crate::text::{self, Font, Inks};
@@ -30,6 +30,14 @@ pub enum Source {
     Bits(Font),
 }
 
+#[derive(Clone, Copy)]
+pub enum Pattern {
+    Solid,
+    Mono,
+    /// Of the table; the word's high bits are the row and the column of the first pixel.
+    Color(u32),
+}
+
 pub struct Blt {
     pub width: usize,
     pub height: usize,
@@ -39,6 +47,7 @@ pub struct Blt {
     pub up: bool,
     pub to: Rows,
     pub source: Source,
+    pub pattern: Pattern,
 }
 
 impl Blt {
@@ -48,7 +57,8 @@ impl Blt {
         let depth = depth_of(r[RASTER_MODE])?;
         let mode = r[BLT_MODE];
         let (left, up) = (mode & 0x200 != 0, mode & 0x100 != 0);
-        if bad_source(r[RASTER_MODE], mode) || r[RASTER_MODE] & 0x200 != 0 || bad_both(r) {
+        let pattern = pattern_of(r).ok_or(24u32)?;
+        if bad_source(r[RASTER_MODE], mode) || bad_both(r) {
             return Err(24);
         }
         let (width, height) = ((r[WID_HEIGHT] >> 16 & 0xFFF) as usize, (r[WID_HEIGHT] & 0xFFF) as usize);
@@ -68,8 +78,26 @@ impl Blt {
             let rows = Bounds { bytes, ..bounds }.rows(r[SRC_OFFSET], stride).ok_or(28u32)?;
             Source::Bits(Font { rows, skip, bytes })
         };
-        Ok(Blt { width, height, depth, left, up, to, source })
+        Ok(Blt { width, height, depth, left, up, to, source, pattern })
     }
+}
+
+/// The pattern, channel 3's in place of RASTER_MODE's, if it is one that is carried.
+#[inline]
+fn pattern_of(r: &Registers) -> Option<Pattern> {
+    let (raster, channel) = (r[RASTER_MODE], r[CH3_MODE_STR]);
+    let pattern = match raster >> 8 & 3 {
+        0 => Pattern::Solid,
+        1 => Pattern::Mono,
+        2 => Pattern::Color(r[DST_OFFSET]),
+        _ => return None,
+    };
+    if channel >> 31 == 0 {
+        return Some(pattern);
+    }
+    // of the mode bits pattern mode alone, and the same format
+    let good = channel & 0x40FC_0000 == 0x0020_0000 && channel >> 24 & 15 == raster >> 28;
+    good.then_some(Pattern::Color(r[CH3_OFFSET]))
 }
 
 /// 24 by a source: its mode, its select, a mono source that goes back, and the source bits with a colour mode.
@@ -110,12 +138,13 @@ impl Bounds {
 
 // ---- drawing
 
-pub fn draw(frame: &mut [u8], b: &Blt, r: &Registers) {
-    let mode = r[RASTER_MODE];
-    match b.source {
-        Source::Bits(font) => draw_text(frame, b, r, font),
-        _ if mode & 0x100 != 0 => draw_mono(frame, b, r),
-        _ => draw_solid(frame, b, r),
+pub fn draw(frame: &mut [u8], b: &Blt, r: &Registers, table: &Table) {
+    match (b.source, b.pattern) {
+        (Source::Bits(font), Pattern::Solid) => draw_text(frame, b, r, font),
+        (Source::Bits(font), Pattern::Mono) => draw_text_mono(frame, b, r, font),
+        (_, Pattern::Solid) => draw_solid(frame, b, r),
+        (_, Pattern::Mono) => draw_mono(frame, b, r),
+        (source, Pattern::Color(place)) => draw_color(frame, b, r, source, &Colors { table, place }),
     }
 }
 
@@ -307,6 +336,76 @@ fn change_mono(frame: &mut [u8], b: &Blt, r: &Registers, clear: Flat, set: Flat)
     }
 }
 
+// ---- colour patterns
+
+/// A colour pattern: the table that holds it, and where in it the first pixel lies.
+struct Colors<'a> {
+    table: &'a Table,
+    place: u32,
+}
+
+impl Colors<'_> {
+    /// The pattern row that row j gets, from its lowest byte on.
+    #[inline]
+    fn row(&self, b: &Blt, j: usize) -> Tile {
+        let (x, y) = (self.place >> 26, (self.place >> 29) as usize);
+        let row = if b.up { y.wrapping_sub(j) } else { y + j } & 7;
+        let column = if b.left { x.wrapping_sub(b.width as u32 - 1) } else { x } & 7;
+        let words = &self.table[0x100 + 2 * b.depth * row..][..2 * b.depth];
+        match *words {
+            [w0, w1] => {
+                let eight = (w0 as u64 | (w1 as u64) << 32).rotate_right(8 * column);
+                std::array::from_fn(|i| (eight >> (32 * (i % 2))) as u32)
+            }
+            [w0, w1, w2, w3] => {
+                let [low, high] = [[w0, w1], [w2, w3]].map(|w| w[0] as u128 | (w[1] as u128) << 32);
+                let eight = (low | high << 64).rotate_right(16 * column);
+                std::array::from_fn(|i| (eight >> (32 * (i % 4))) as u32)
+            }
+            _ => std::array::from_fn(|i| words[(i + column as usize) % 8]),
+        }
+    }
+}
+
+#[inline(never)]
+fn draw_color(frame: &mut [u8], b: &Blt, r: &Registers, source: Source, colors: &Colors) {
+    let code = r[RASTER_MODE];
+    match source {
+        Source::Bits(font) if raster::reads_pattern(code) => {
+            for j in 0..b.height {
+                let inks = colors.row(b, j).map(|pattern| inks(b, r, pattern));
+                let tiles =
+                    Inks { clear: FlatTile::from(inks.map(|i| i.clear)), set: FlatTile::from(inks.map(|i| i.set)) };
+                text::draw_tiles(frame, b, font, j, tiles);
+            }
+        }
+        Source::Bits(font) => draw_text(frame, b, r, font),
+        _ if !raster::reads_pattern(code) => draw_solid(frame, b, r),
+        Source::Frame(from) if raster::reads_source(code) => combine(frame, b, from, |j| RopTile::of(code, &colors.row(b, j))),
+        _ if code & 0xFF == 0xF0 => rows_by_tile(frame, b, |j| colors.row(b, j), raster::fill_tile),
+        _ => {
+            let source = raster::repeated(b.depth, r[SRC_COLOR_FG]);
+            rows_by_tile(frame, b, |j| FlatTile::of(code, &colors.row(b, j), source), raster::change_tile)
+        }
+    }
+}
+
+/// Row j by the j-th tile, of which there are eight.
+#[inline(never)]
+fn rows_by_tile<T>(frame: &mut [u8], b: &Blt, tile: impl Fn(usize) -> T, draw: impl Fn(&mut [u8], &T)) {
+    let n = b.width * b.depth;
+    let mut row = |j: usize, tile: &T| {
+        let at = b.to.at(j);
+        draw(&mut frame[at..at + n], tile);
+    };
+    if b.height <= 8 {
+        (0..b.height).for_each(|j| row(j, &tile(j)));
+    } else {
+        let tiles: [T; 8] = std::array::from_fn(tile);
+        (0..b.height).for_each(|j| row(j, &tiles[j % 8]));
+    }
+}
+
 // ---- mono sources
 
 /// What pixels get where the source's bit is clear, and where it is set, at a pattern value.
@@ -323,19 +422,22 @@ fn inks(b: &Blt, r: &Registers, pattern: u32) -> Inks<Flat> {
     }
 }
 
+/// A mono source and a solid pattern.
 #[inline(never)]
 fn draw_text(frame: &mut [u8], b: &Blt, r: &Registers, font: Font) {
-    let first = inks(b, r, raster::repeated(b.depth, r[PAT_COLOR_0]));
-    if r[RASTER_MODE] & 0x100 == 0 {
-        return text::draw(frame, b, font, first);
-    }
+    text::draw(frame, b, font, inks(b, r, raster::repeated(b.depth, r[PAT_COLOR_0])));
+}
+
+/// A mono source and a mono pattern.
+#[inline(never)]
+fn draw_text_mono(frame: &mut [u8], b: &Blt, r: &Registers, font: Font) {
     let holes = Inks { clear: Flat::KEEP, set: Flat::KEEP };
-    let clear = if r[RASTER_MODE] & 0x400 != 0 { holes } else { first };
-    let set = inks(b, r, raster::repeated(b.depth, r[PAT_COLOR_1]));
+    let [clear, set] = [PAT_COLOR_0, PAT_COLOR_1].map(|i| inks(b, r, raster::repeated(b.depth, r[i])));
+    let clear = if r[RASTER_MODE] & 0x400 != 0 { holes } else { clear };
     for j in 0..b.height {
         let mask = pattern_mask(b, r, j);
         let tiles =
             Inks { clear: FlatTile::chosen(clear.clear, set.clear, &mask), set: FlatTile::chosen(clear.set, set.set, &mask) };
-        text::draw_mono(frame, b, font, j, tiles);
+        text::draw_tiles(frame, b, font, j, tiles);
     }
 }

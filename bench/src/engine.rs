@@ -6,6 +6,9 @@ use crate::vector::{self, Vector};
 
 pub type Registers = [u32; 17];
 
+/// The lookup table. Colour patterns stand in it.
+pub type Table = [u32; 512];
+
 // Numbered in the order of a BLT's words; the last is a vector's alone. SRC_OFFSET is VEC_ERR too, WID_HEIGHT VEC_LEN.
 pub const RASTER_MODE: usize = 0;
 pub const DST_OFFSET: usize = 1;
@@ -18,6 +21,7 @@ pub const PAT_COLOR_0: usize = 7;
 pub const PAT_COLOR_1: usize = 8;
 pub const PAT_DATA_0: usize = 9;
 pub const PAT_DATA_1: usize = 10;
+pub const CH3_OFFSET: usize = 11;
 pub const CH3_MODE_STR: usize = 12;
 pub const BASE_OFFSET: usize = 14;
 pub const BLT_MODE: usize = 15;
@@ -40,6 +44,9 @@ struct Engine<'a> {
     write: usize,
     read: usize,
     registers: Registers,
+    table: Table,
+    /// GP_LUT_INDEX: where the next load goes on.
+    index: u32,
 }
 
 /// What the word at the read pointer leads to.
@@ -57,7 +64,7 @@ pub fn draw(ring: &[u32], frame: &mut [u8], write: usize) -> Told {
     if told.number != 0 {
         return told;
     }
-    let mut engine = Engine { ring, write, read: 0, registers: [0; 17] };
+    let mut engine = Engine { ring, write, read: 0, registers: [0; 17], table: [0; 512], index: 0 };
     loop {
         match engine.next(frame) {
             Next::Waits => return told,
@@ -76,7 +83,7 @@ pub fn draw(ring: &[u32], frame: &mut [u8], write: usize) -> Told {
 
 /// 1, 2 or 5, or 0.
 fn bad_lengths(ring: usize, frame: usize, write: usize) -> u32 {
-    if !(64..=16384).contains(&ring) {
+    if !(1024..=16384).contains(&ring) {
         return 1;
     }
     if !(1..=16_777_216).contains(&frame) {
@@ -98,22 +105,18 @@ impl Engine<'_> {
             return Next::Waits;
         }
         let header = self.ring[self.read];
+        if header & 0x4000_0000 != 0 {
+            return self.table(header, waiting);
+        }
         let vector = header & 0x2000_0000 != 0;
-        let (length, zeros) = if vector { (14, 0x4FFF_E000) } else { (17, 0x4FFF_0000) };
+        let (length, zeros) = if vector { (14, 0x0FFF_E000) } else { (17, 0x0FFF_0000) };
         if header & zeros != 0 {
             return Next::Refused(21);
         }
-        let mut needed = length;
-        let mut after = self.read + length;
-        if header >> 31 != 0 {
-            if self.read == 0 || after > size {
-                return Next::Refused(22);
-            }
-            needed = size - self.read;
-            after = 0;
-        } else if after >= size {
-            after -= size;
-        }
+        let (needed, after) = match self.span(header, length) {
+            Ok(span) => span,
+            Err(number) => return Next::Refused(number),
+        };
         if waiting < needed {
             return Next::Waits;
         }
@@ -122,6 +125,54 @@ impl Engine<'_> {
             self.read = after;
         }
         done
+    }
+
+    /// How many words must wait for a command of this length, and the read pointer after it; or 22.
+    #[inline]
+    fn span(&self, header: u32, length: usize) -> Result<(usize, usize), u32> {
+        let size = self.ring.len();
+        let after = self.read + length;
+        if header >> 31 != 0 {
+            if self.read == 0 || after > size {
+                return Err(22);
+            }
+            return Ok((size - self.read, 0));
+        }
+        Ok((length, if after >= size { after - size } else { after }))
+    }
+
+    /// Loads words into the table.
+    #[inline(never)]
+    fn table(&mut self, header: u32, waiting: usize) -> Next {
+        if header & 0x2FFF_FFFC != 0 {
+            return Next::Refused(21);
+        }
+        if waiting < 3 {
+            return Next::Waits;
+        }
+        let size = self.ring.len();
+        let count = (self.ring[(self.read + 2) % size] ^ 0x6000_0000) as usize;
+        if !(1..=512).contains(&count) {
+            return Next::Refused(29);
+        }
+        let (needed, after) = match self.span(header, 3 + count) {
+            Ok(span) => span,
+            Err(number) => return Next::Refused(number),
+        };
+        if waiting < needed {
+            return Next::Waits;
+        }
+        if header & 1 != 0 {
+            self.index = self.ring[(self.read + 1) % size];
+        }
+        let (from, to) = ((self.read + 3) % size, self.index as usize % 512);
+        match (self.ring.get(from..from + count), self.table.get_mut(to..to + count)) {
+            (Some(words), Some(places)) => places.copy_from_slice(words),
+            _ => (0..count).for_each(|i| self.table[(to + i) % 512] = self.ring[(from + i) % size]),
+        }
+        self.index = self.index & !511 | (to + count) as u32 & 511;
+        self.read = after;
+        Next::Done(1)
     }
 
     fn blt(&mut self, header: u32, frame: &mut [u8]) -> Next {
@@ -135,7 +186,7 @@ impl Engine<'_> {
         if header & 0x8000 != 0 {
             match Blt::judged(&loaded, frame.len()) {
                 Ok(b) => {
-                    blt::draw(frame, &b, &loaded);
+                    blt::draw(frame, &b, &loaded, &self.table);
                     units += b.width as u32 * b.height as u32;
                 }
                 Err(number) => return Next::Refused(number),
@@ -206,8 +257,8 @@ pub fn depth_of(mode: u32) -> Result<usize, u32> {
     }
 }
 
-/// Whether 24 applies by what both kinds of command have: pattern inversion, channel 3, a base.
+/// Whether 24 applies by what both kinds of command have: pattern inversion, a base.
 #[inline]
 pub fn bad_both(r: &Registers) -> bool {
-    r[RASTER_MODE] & 0x1000 != 0 || r[CH3_MODE_STR] >> 31 != 0 || r[BASE_OFFSET] != 0
+    r[RASTER_MODE] & 0x1000 != 0 || r[BASE_OFFSET] != 0
 }

@@ -4,6 +4,7 @@
 //! the fastest turn counts in place of the median, for a machine that does other work beside.
 
 mod blt;
+mod calls;
 mod engine;
 mod mixed;
 mod order;
@@ -112,12 +113,20 @@ fn run(option: &str, word: &str) -> ExitCode {
             return ExitCode::FAILURE;
         }
     }
+    if let Err(line) = calls::agree() {
+        println!("bench: {line}");
+        return ExitCode::FAILURE;
+    }
     if cases.len() + mixed.len() == 0 {
         println!("bench: no kind has {word} in its name");
         return ExitCode::FAILURE;
     }
     if option != "--compare" {
-        measure(&cases, &start, &mut memories, if option == "--best" { 0 } else { TURNS / 2 });
+        let rank = if option == "--best" { 0 } else { TURNS / 2 };
+        measure(&cases, &start, &mut memories, rank);
+        if "calls alone".contains(word) {
+            calls::measure(rank);
+        }
     }
     println!("bench: {} rings drawn, frame memory the same", cases.len() + mixed.len());
     ExitCode::SUCCESS
@@ -139,7 +148,10 @@ fn agree(case: &mut Case, start: &[u8], memories: &mut [Memory; 2]) -> Result<()
     if case.mixed {
         case.commands = told[0].retired.max(1) as usize;
         case.pixels = (told[0].units as usize).saturating_sub(case.commands);
-    } else if told[0] != (Told { units: (case.commands + case.pixels) as u32, retired: case.commands as u32, number: 0 }) {
+        return Ok(());
+    }
+    let retired = case.commands + case.loads;
+    if told[0] != (Told { units: (retired + case.pixels) as u32, retired: retired as u32, number: 0 }) {
         return Err(format!("not all of it is drawn: {:?}", told[0]));
     }
     Ok(())

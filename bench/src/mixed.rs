@@ -10,25 +10,26 @@ pub fn all(word: &str) -> Vec<Case> {
 
 fn mixed_ring(seed: u64) -> Case {
     let mut random = Random::new(1000 + seed);
-    let length = 64 + random.below(1000);
+    let words = 64 + random.below(1000);
     let mut ring: Vec<u32> = Vec::new();
-    while ring.len() < length {
-        if random.below(4) == 0 {
-            ring.extend(mixed_vector(&mut random));
-        } else {
-            ring.extend(mixed_blt(&mut random));
+    while ring.len() < words {
+        match random.below(8) {
+            0 | 1 => ring.extend(mixed_vector(&mut random)),
+            2 => ring.extend(mixed_table(&mut random)),
+            _ => ring.extend(mixed_blt(&mut random)),
         }
     }
-    ring.truncate(length);
+    ring.resize(1100 + random.below(1000), 0);
     Case {
         kind: format!("random {seed}"),
         bits: 0,
         size: String::new(),
-        write: length - 1 - random.below(20),
+        write: words - random.below(20),
         ring,
         frame: 20_000 + random.below(12_768),
         commands: 1,
         pixels: 0,
+        loads: 0,
         mixed: true,
     }
 }
@@ -66,6 +67,36 @@ fn mixed_raster(random: &mut Random, bits: u32) -> u32 {
     format ^ faults | random.next() & bits | code
 }
 
+/// A load of up to 80 table words, most of them of the colour pattern; rarely with a bad count word.
+fn mixed_table(random: &mut Random) -> Vec<u32> {
+    let enables = one_of([3, 1, 2, 0], random);
+    let bad = if random.below(200) == 0 { 1 << random.below(32) } else { 0 };
+    let index = one_of([0x100, 0x140, 511, random.next()], random);
+    let count = size(80, random);
+    let faults = if random.below(100) == 0 { 1 << random.below(32) } else { 0 };
+    let mut words = vec![0x4000_0000 | enables | bad, index, 0x6000_0000 ^ faults | count];
+    words.extend((0..count).map(|_| random.next()));
+    words
+}
+
+/// RASTER_MODE's pattern mode: solid, mono, by colours, rarely undefined.
+fn mixed_pattern(random: &mut Random) -> u32 {
+    if random.below(200) == 0 {
+        0x300
+    } else {
+        [0x000, 0x100, 0x200][random.below(3)]
+    }
+}
+
+/// CH3_MODE_STR: off, or its pattern mode in the raster mode's format; sometimes bad.
+fn mixed_channel(random: &mut Random, raster: u32) -> u32 {
+    if random.below(5) != 0 {
+        return random.next() >> 1;
+    }
+    let faults = if random.below(20) == 0 { 1 << (18 + random.below(14)) } else { 0 };
+    (0x8020_0000 | raster >> 28 << 24 | random.next() & 0x3003_FFFF) ^ faults
+}
+
 fn mixed_blt(random: &mut Random) -> [u32; 17] {
     let (x, y) = (random.next() & 0x200, random.next() & 0x100);
     let mono = random.below(3) == 0;
@@ -75,9 +106,10 @@ fn mixed_blt(random: &mut Random) -> [u32; 17] {
     let near = to + random.next() % 400 - 200;
     let from = one_of([near, near, near, 6000 + random.next() % 12_000], random);
     let stride = one_of([200, 0, random.next() % 300], random);
+    let raster = mixed_raster(random, if source & 0xC0 != 0 { 0x2C00 } else { 0x0400 }) | mixed_pattern(random);
     [
         mixed_header(random, 0, 16),
-        mixed_raster(random, if source & 0xC0 != 0 { 0x2D00 } else { 0x0500 }),
+        raster,
         random.next() & 0xFC00_0000 | to,
         random.next() & 0xFC00_0000 | from,
         one_of([stride, random.next() % 300], random) << 16 | stride,
@@ -89,7 +121,7 @@ fn mixed_blt(random: &mut Random) -> [u32; 17] {
         random.next(),
         random.next(),
         random.next(),
-        random.next() >> (random.below(200) != 0) as u32,
+        mixed_channel(random, raster),
         random.next(),
         (random.below(200) == 0) as u32,
         back | source,
@@ -113,7 +145,7 @@ fn mixed_vector(random: &mut Random) -> [u32; 14] {
         random.next(),
         random.next(),
         random.next(),
-        random.next() >> 1,
+        random.next() >> (random.below(200) != 0) as u32,
         (random.below(200) == 0) as u32,
         random.next(),
     ]

@@ -85,6 +85,12 @@ pub fn reads_source(code: u32) -> bool {
     (code ^ code >> 2) & 0x33 != 0
 }
 
+/// Whether it looks at the pattern.
+#[inline]
+pub fn reads_pattern(code: u32) -> bool {
+    (code ^ code >> 4) & 0x0F != 0
+}
+
 /// What is left of it where the source is one value: `(d & and) ^ xor`.
 #[derive(Clone, Copy)]
 pub struct Flat {
@@ -132,6 +138,17 @@ impl FlatTile {
         FlatTile { and: [f.and; 8], xor: [f.xor; 8] }
     }
 
+    /// A raster code with the eight pixels of a pattern row, and a source value.
+    #[inline]
+    pub fn of(code: u32, pattern: &Tile, source: u32) -> FlatTile {
+        FlatTile::from(pattern.map(|p| Flat::of(code, p, source)))
+    }
+
+    #[inline]
+    pub fn from(words: [Flat; 8]) -> FlatTile {
+        FlatTile { and: words.map(|f| f.and), xor: words.map(|f| f.xor) }
+    }
+
     #[inline]
     pub fn chosen(clear: Flat, set: Flat, mask: &Tile) -> FlatTile {
         FlatTile { and: chosen(clear.and, set.and, mask), xor: chosen(clear.xor, set.xor, mask) }
@@ -160,6 +177,12 @@ pub struct RopTile {
 }
 
 impl RopTile {
+    #[inline]
+    pub fn of(code: u32, pattern: &Tile) -> RopTile {
+        let rops = pattern.map(|p| Rop::of(code, p));
+        RopTile { a: rops.map(|o| o.a), b: rops.map(|o| o.b), c: rops.map(|o| o.c), e: rops.map(|o| o.e) }
+    }
+
     #[inline]
     pub fn chosen(clear: Rop, set: Rop, mask: &Tile) -> RopTile {
         RopTile {

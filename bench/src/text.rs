@@ -11,7 +11,7 @@ pub struct Font {
     pub skip: u32,
 }
 
-/// What pixels get where their bit is clear, and where it is set: of a solid pattern one operation, of a mono pattern eight.
+/// What pixels get where their bit is clear, and where it is set: of a solid pattern one operation, of the others eight.
 #[derive(Clone, Copy)]
 pub struct Inks<F> {
     pub clear: F,
@@ -146,8 +146,8 @@ pub fn draw(frame: &mut [u8], b: &Blt, font: Font, inks: Inks<Flat>) {
     }
 }
 
-/// Row j, with a mono pattern.
-pub fn draw_mono(frame: &mut [u8], b: &Blt, font: Font, j: usize, inks: Inks<FlatTile>) {
+/// Row j, with the operations of a pattern row.
+pub fn draw_tiles(frame: &mut [u8], b: &Blt, font: Font, j: usize, inks: Inks<FlatTile>) {
     let Inks { clear, set } = inks;
     let differ = |x: Tile, y: Tile| std::array::from_fn(|i| x[i] ^ y[i]);
     let (and, xor) = ([clear.and, differ(clear.and, set.and)], [clear.xor, differ(clear.xor, set.xor)]);

@@ -1,7 +1,7 @@
 //! A vector: its bounds, and its pixels one after the other.
 
 use crate::engine::{bad_both, depth_of, Registers};
-use crate::engine::{DST_OFFSET, PAT_COLOR_0, RASTER_MODE, SRC_COLOR_FG, SRC_OFFSET, STRIDE, VECTOR_MODE, WID_HEIGHT};
+use crate::engine::{CH3_MODE_STR, DST_OFFSET, PAT_COLOR_0, RASTER_MODE, SRC_COLOR_FG, SRC_OFFSET, STRIDE, VECTOR_MODE, WID_HEIGHT};
 use crate::raster::Flat;
 
 pub struct Vector {
@@ -21,7 +21,7 @@ impl Vector {
     /// The vector that the registers describe, or the number that refuses it.
     pub fn judged(r: &Registers, frame: usize) -> Result<Vector, u32> {
         let depth = depth_of(r[RASTER_MODE])?;
-        if r[RASTER_MODE] & 0x2B00 != 0 || bad_both(r) {
+        if r[RASTER_MODE] & 0x2B00 != 0 || r[CH3_MODE_STR] >> 31 != 0 || bad_both(r) {
             return Err(24);
         }
         let length = r[WID_HEIGHT] >> 16 & 0xFFF;

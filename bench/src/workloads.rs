@@ -16,9 +16,11 @@ pub struct Case {
     pub ring: Vec<u32>,
     pub write: usize,
     pub frame: usize,
-    /// Commands, and pixels of all of them.
+    /// Commands that draw, and pixels of all of them.
     pub commands: usize,
     pub pixels: usize,
+    /// Table loads before them.
+    pub loads: usize,
     /// Whether it is not known before how much of it is drawn: a recording, or random commands.
     pub mixed: bool,
 }
@@ -80,26 +82,32 @@ enum Shape {
     Line,
 }
 
-/// A kind of command: its name, and its RASTER_MODE without the format.
+/// A kind of command: its name, its RASTER_MODE without the format, and whether channel 3 brings the pattern.
 struct Kind {
     name: &'static str,
     shape: Shape,
     raster: u32,
+    channel: bool,
 }
 
 const MONO: u32 = 0x100;
+const COLOR: u32 = 0x200;
 const PATTERN_HOLES: u32 = 0x400;
 const SOURCE_HOLES: u32 = 0x800;
 
 const fn kind(name: &'static str, source: Source, raster: u32) -> Kind {
-    Kind { name, shape: Shape::Rectangle(source), raster }
+    Kind { name, shape: Shape::Rectangle(source), raster, channel: false }
+}
+
+const fn by_channel(name: &'static str, source: Source, raster: u32) -> Kind {
+    Kind { name, shape: Shape::Rectangle(source), raster, channel: true }
 }
 
 const fn line(name: &'static str, raster: u32) -> Kind {
-    Kind { name, shape: Shape::Line, raster }
+    Kind { name, shape: Shape::Line, raster, channel: false }
 }
 
-const KINDS: [Kind; 27] = [
+const KINDS: [Kind; 30] = [
     kind("fill F0", Source::None, 0xF0),
     kind("copy left CC", Source::Right, 0xCC),
     kind("copy right CC", Source::Left, 0xCC),
@@ -110,6 +118,9 @@ const KINDS: [Kind; 27] = [
     kind("mono F0", Source::None, MONO | 0xF0),
     kind("mono F0 holes", Source::None, MONO | PATTERN_HOLES | 0xF0),
     kind("mono 5A", Source::None, MONO | 0x5A),
+    kind("colour F0", Source::None, COLOR | 0xF0),
+    kind("colour 5A", Source::None, COLOR | 0x5A),
+    by_channel("colour F0 channel 3", Source::None, 0xF0),
     kind("text CC", Source::Packed, 0xCC),
     kind("text CC holes", Source::Packed, SOURCE_HOLES | 0xCC),
     kind("text CC sheet", Source::Sheet, 0xCC),
@@ -145,6 +156,9 @@ fn format(depth: usize) -> u32 {
 /// Every case whose kind has the word in its name.
 pub fn all(word: &str) -> Vec<Case> {
     let mut cases = Vec::new();
+    if "calls alone".contains(word) {
+        cases.push(calls());
+    }
     for kind in KINDS.iter().filter(|k| k.name.contains(word)) {
         for depth in [1, 2, 4] {
             for (width, height, count) in SIZES {
@@ -158,9 +172,30 @@ pub fn all(word: &str) -> Vec<Case> {
     cases
 }
 
+/// Setup, publish and a run that find nothing to do.
+fn calls() -> Case {
+    Case {
+        kind: "calls alone".to_string(),
+        bits: 0,
+        size: String::new(),
+        write: 0,
+        ring: filled(Vec::new()),
+        frame: 64,
+        commands: 1,
+        pixels: 0,
+        loads: 0,
+        mixed: true,
+    }
+}
+
 fn rectangles(kind: &Kind, source: Source, depth: usize, (width, height, count): (usize, usize, usize)) -> Case {
     let mut random = Random::new((width + depth) as u64);
     let mut ring = Vec::with_capacity(RING);
+    let loads = (kind.channel || kind.raster & COLOR != 0) as usize;
+    if loads == 1 {
+        ring.extend(tile(&mut random));
+    }
+    let count = count.min((RING - 1 - ring.len()) / 17);
     for _ in 0..count {
         ring.extend(rectangle(kind, source, depth, width, height, &mut random));
     }
@@ -173,6 +208,7 @@ fn rectangles(kind: &Kind, source: Source, depth: usize, (width, height, count):
         frame: 2 * HIGH * WIDE * depth,
         commands: count,
         pixels: count * width * height,
+        loads,
         mixed: false,
     }
 }
@@ -180,6 +216,14 @@ fn rectangles(kind: &Kind, source: Source, depth: usize, (width, height, count):
 fn filled(mut ring: Vec<u32>) -> Vec<u32> {
     ring.resize(RING, 0);
     ring
+}
+
+/// A load of a colour pattern, as many words as it has at 32 bits.
+fn tile(random: &mut Random) -> [u32; 67] {
+    let mut words = [0; 67];
+    words[..3].copy_from_slice(&[0x4000_0003, 0x100, 0x6000_0040]);
+    words[3..].fill_with(|| random.next());
+    words
 }
 
 /// One BLT with all its words enabled, at a place of its own.
@@ -195,6 +239,10 @@ fn rectangle(kind: &Kind, source: Source, depth: usize, width: usize, height: us
     words[4] = stride << 16 | stride;
     words[5] = (width << 16 | height) as u32;
     words[6..12].fill_with(|| random.next());
+    if kind.channel {
+        words[12] = random.next() & 0xFC00_0000;
+        words[13] = 0x8020_0000 | format(depth) >> 4;
+    }
     words[16] = mode;
     words
 }
@@ -239,6 +287,7 @@ fn lines(kind: &Kind, depth: usize, length: usize, count: usize) -> Case {
         frame: 2 * HIGH * WIDE * depth,
         commands: count,
         pixels: count * length,
+        loads: 0,
         mixed: false,
     }
 }
@@ -297,6 +346,7 @@ pub fn recordings(folder: &Path, word: &str) -> Vec<Case> {
                 ring: words[4..].to_vec(),
                 commands: 1,
                 pixels: 0,
+                loads: 0,
                 mixed: true,
             });
         }
