@@ -8,6 +8,7 @@ mod calls;
 mod engine;
 mod mixed;
 mod order;
+mod plain;
 mod raster;
 mod text;
 mod vector;
@@ -126,6 +127,9 @@ fn run(option: &str, word: &str) -> ExitCode {
         measure(&cases, &start, &mut memories, rank);
         if "calls alone".contains(word) {
             calls::measure(rank);
+        }
+        if "colour F0".contains(word) {
+            plain::measure(rank);
         }
     }
     println!("bench: {} rings drawn, frame memory the same", cases.len() + mixed.len());
