@@ -19,14 +19,14 @@ use model::Rectangle;
 // ---- a walk along the rows, which may begin and end within one
 
 // The column and the row that are next, and how many pixels are drawn.
-struct Walk {
-    column: usize,
-    row: usize,
-    drawn: usize,
+pub struct Walk {
+    pub column: usize,
+    pub row: usize,
+    pub drawn: usize,
 }
 
 // From pixel k on.
-fn begin(k: usize, width: usize) -> Walk
+pub fn begin(k: usize, width: usize) -> Walk
     requires { ⌜ 0 < width ⌝ }
     ensures { λ r. ⌜ (r .column ≡ k % width) × (r .row ≡ k / width) × (r .drawn ≡ 0) ⌝ }
 {
@@ -38,7 +38,7 @@ fn begin(k: usize, width: usize) -> Walk
 }
 
 // How many of the pixels left are of the row that is next.
-fn part(w: Walk, width: usize, n: usize) -> usize
+pub fn part(w: Walk, width: usize, n: usize) -> usize
     requires { ⌜ (w .drawn < n) × (w .column < width) ⌝ }
     ensures { λ r. ⌜ Part width n (w .column) (w .drawn) r ⌝ }
 {
@@ -51,7 +51,7 @@ fn part(w: Walk, width: usize, n: usize) -> usize
 }
 
 // After c pixels the first column of the row after it.
-fn on(w: Walk, c: usize) -> Walk
+pub fn on(w: Walk, c: usize) -> Walk
     requires { ⌜ (w .row < 2 ^ 32) × (w .drawn < 2 ^ 32) × (c < 2 ^ 32) ⌝ }
     ensures { λ r. ⌜ (r .column ≡ 0) × (r .row ≡ w .row + 1) × (r .drawn ≡ w .drawn + c) ⌝ }
 {

@@ -81,7 +81,7 @@ fn rectangle_of(registers: [u32; REGISTERS], offset: usize, stride: usize) -> Re
 }
 
 // Whether the source mode is mono.
-fn is_mono(registers: [u32; REGISTERS]) -> bool
+pub fn is_mono(registers: [u32; REGISTERS]) -> bool
     ensures { λ r. ⌜ r ≡ monoMode registers ⌝ }
 {
     let mode = bits(registers, BLT_MODE, 7, 6);
@@ -135,7 +135,7 @@ fn bytes_of(registers: [u32; REGISTERS]) -> Rectangle
 }
 
 // The mono source.
-fn mono_source_of(registers: [u32; REGISTERS]) -> MonoSource
+pub fn mono_source_of(registers: [u32; REGISTERS]) -> MonoSource
     ensures { λ r. ⌜ r ≡ monoSourceOf registers ⌝ }
 {
     MonoSource {
@@ -222,6 +222,18 @@ pub fn blt_of(registers: [u32; REGISTERS]) -> Blt
     }
 }
 
+// The same, for a host source to give its values. Each of the two has one caller, so that the compiler inlines it.
+pub fn host_blt_of(registers: [u32; REGISTERS]) -> Blt
+    ensures { λ r. ⌜ r ≡ bltOf registers ⌝ }
+{
+    Blt {
+        destination: destination_of(registers),
+        source: source_of(registers),
+        pattern: pattern_of(registers),
+        code: bits(registers, RASTER_MODE, 7, 0),
+    }
+}
+
 // The same with no pattern, for a tile to give its colours.
 fn plain_of(registers: [u32; REGISTERS]) -> Blt
     ensures { λ r. ⌜ r ≡ withColor (bltOf registers) 0 ⌝ }
@@ -276,7 +288,7 @@ fn plain_value(s: Source) -> u32
 }
 
 // Whether a pattern gives every pixel a value.
-fn is_full(p: Pattern) -> bool
+pub fn is_full(p: Pattern) -> bool
     ensures { λ r. ⌜ r ≡ isFull p ⌝ }
 {
     match p {

@@ -15,7 +15,7 @@ use Rattle.model.specs.Registers.{LUT-INDEX, word}
 use Rattle.model.specs.Lookup.{dataCount, indexAfter, dataStored}
 use Rattle.model.specs.Command.{kindOf, countWord, loadWords, enabled, advanced, loaded, filled, loadedTable}
 use Rattle.model.specs.declared.Kind.{Kind}
-use Rattle.model.specs.declared.Kind.the-variants.{Blt, Vector, Table}
+use Rattle.model.specs.declared.Kind.the-variants.{Blt, Vector, Table, Data}
 use Rattle.laws.specs.Pixels.{set-same}
 use Rattle.command.specs.Pieces.{InPiece}
 
@@ -52,14 +52,15 @@ module _ (ring : List ℕ) (read header : ℕ) (registers : List ℕ) where
       go Blt e = rw e
       go Vector e = rw e
       go Table e = absurd (h e)
+      go Data e = rw e
 
   -- loading a table load advances its index, and stores its data
   module _ {out : List ℕ} {count : ℕ} (kind : kindOf header ≡ Table) (words : out ≡ enabled ring read header registers)
-      (counts : count ≡ dataCount (countWord ring read)) where
+      (counts : count ≡ dataCount (countWord Table ring read)) where
     pub table-loaded : {index : ℕ} → index ≡ indexAfter count (word out LUT-INDEX) → set out LUT-INDEX index ≡ loaded ring read header registers
     unfolding loaded
     table-loaded e =
-        rw (e, counts, words) (sym (ap (λ (k : Kind). advanced k (countWord ring read) (enabled ring read header registers)) kind))
+        rw (e, counts, words) (sym (ap (λ (k : Kind). advanced k (countWord k ring read) (enabled ring read header registers)) kind))
 
     pub table-filled : (table : List ℕ) {after : List ℕ} → after ≡ dataStored ring read 3 count (word out LUT-INDEX) table
         → after ≡ loadedTable ring read header registers table

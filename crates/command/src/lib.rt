@@ -1,5 +1,5 @@
-// Commands in the ring: what a header and a count word say, the refusals 21, 29 and 22, the words that must wait, the registers and
-// the lookup table after loading, and the read pointer after it.
+// Commands in the ring: what a header and a count word say, the refusals 21, 30, 31, 29, 32 and 22, the words that must wait, the
+// registers and the lookup table after loading, and the read pointer after it.
 ghost use mathlib.Core.Path.{_≡_};
 ghost use mathlib.Core.Bool.{true, false};
 ghost use mathlib.Core.List.{List};
@@ -9,11 +9,11 @@ ghost use Rattle.model.specs.Limits.{ringLeast, tableLength};
 ghost use Rattle.model.specs.Registers.{registerCount};
 ghost use Rattle.model.specs.Refusals.{first};
 ghost use Rattle.model.specs.Lookup.{dataCount, badCount, indexAfter, dataStored};
-ghost use Rattle.model.specs.Command.{returns, kindOf, badHeader, wordRegisters, countWord, commandLength, drawnBy, badReturn, badTable, headerRules, wholeWords, readAfter, enabled, loaded, loadedTable};
+ghost use Rattle.model.specs.Command.{returns, kindOf, badHeader, isData, wordRegisters, countPlace, countWord, commandLength, drawnBy, badReturn, unwanted, unasked, badTable, badDataCount, badDataWord, badData, headerRules, badStart, judgedWords, wholeWords, readAfter, enabled, loaded, loadedTable};
 ghost use Rattle.model.specs.Choice.{if_then_else_};
 ghost use Rattle.model.specs.declared.Drawn.the-variants.{Nothing, Draws};
-ghost use Rattle.model.specs.declared.Kind.the-variants.{Blt as BltKind, Vector as VectorKind, Table as TableKind};
-ghost use Rattle.command.specs.Look.{neededWords, look, isReady, refusedAt, plainSeen, tableSeen};
+ghost use Rattle.model.specs.declared.Kind.the-variants.{Blt as BltKind, Vector as VectorKind, Table as TableKind, Data as DataKind};
+ghost use Rattle.command.specs.Look.{neededWords, look, isReady, refusedAt, plainSeen, tableSeen, dataSeen, wantedSeen};
 ghost use Rattle.command.specs.Pieces.{InPiece};
 use model::Drawn;
 use model::Kind;
@@ -24,18 +24,19 @@ use model::TABLE;
 
 // ---- the header and the count word
 
-// The command's kind, of a header that 21 does not refuse.
+// The command's kind.
 pub fn kind_of(header: u32) -> Kind
     ensures { λ r. ⌜ r ≡ kindOf header ⌝ }
 {
     match fields::bits(header, 30, 29) {
         0b00 => Kind::Blt,
         0b01 => Kind::Vector,
-        _ => Kind::Table,
+        0b10 => Kind::Table,
+        _ => Kind::Data,
     }
 }
 
-// Whether the header's kind is not carried, or a bit is set that must be zero.
+// Whether a bit is set that must be zero.
 fn bad_header(header: u32) -> bool
     ensures { λ r. ⌜ r ≡ badHeader header ⌝ }
 {
@@ -43,7 +44,7 @@ fn bad_header(header: u32) -> bool
         0b00 => fields::bits(header, 27, 16) != 0,
         0b01 => fields::bits(header, 27, 13) != 0,
         0b10 => fields::bits(header, 27, 2) != 0,
-        _ => true,
+        _ => fields::bits(header, 27, 1) != 0,
     }
 }
 
@@ -54,15 +55,47 @@ pub fn returns(header: u32) -> bool
     fields::is_set(header, 31)
 }
 
-// The word that a table load at this position has its count in.
-pub fn count_word(ring: &[u32], read: usize) -> u32
+fn is_data(kind: Kind) -> bool
+    ensures { λ r. ⌜ r ≡ isData kind ⌝ }
+{
+    match kind {
+        Kind::Blt => false,
+        Kind::Vector => false,
+        Kind::Table => false,
+        Kind::Data => true,
+    }
+}
+
+// The place of the count word, or that of the header where there is none.
+fn count_place(kind: Kind) -> usize
+    ensures { λ r. ⌜ (r ≡ countPlace kind) × (r < 3) ⌝ }
+{
+    match kind {
+        Kind::Blt => 0,
+        Kind::Vector => 0,
+        Kind::Table => 2,
+        Kind::Data => 1,
+    }
+}
+
+// The word there, of the command at this position.
+pub fn count_word(ring: &[u32], read: usize, header: u32) -> u32
     requires { ⌜ (read < length (now ring)) × (ringLeast ≤ length (now ring)) ⌝ }
-    ensures { λ r. ⌜ r ≡ countWord (now (ring .entry)) read ⌝ }
+    ensures { λ r. ⌜ r ≡ countWord (kindOf header) (now (ring .entry)) read ⌝ }
+{
+    let place = count_place(kind_of(header));
+    ring::word_at(ring, read, place)
+}
+
+// The same of a table load.
+pub fn table_word(ring: &[u32], read: usize) -> u32
+    requires { ⌜ (read < length (now ring)) × (ringLeast ≤ length (now ring)) ⌝ }
+    ensures { λ r. ⌜ r ≡ countWord TableKind (now (ring .entry)) read ⌝ }
 {
     ring::word_at(ring, read, 2)
 }
 
-// How many data words a table load has.
+// How many data words a table load or a data command has.
 fn data_count(counted: u32) -> usize
     ensures { λ r. ⌜ r ≡ dataCount counted ⌝ }
 {
@@ -86,7 +119,7 @@ fn bad_count(counted: u32) -> bool
     TABLE < count
 }
 
-// The same of a command of any kind: only a table load has a count word.
+// The same of a command of any kind.
 fn bad_table(kind: Kind, counted: u32) -> bool
     ensures { λ r. ⌜ r ≡ badTable kind counted ⌝ }
 {
@@ -94,6 +127,45 @@ fn bad_table(kind: Kind, counted: u32) -> bool
         Kind::Blt => false,
         Kind::Vector => false,
         Kind::Table => bad_count(counted),
+        Kind::Data => false,
+    }
+}
+
+// Whether 32 refuses a data command's count.
+pub fn bad_data_count(size: usize, count: usize) -> bool
+    requires { ⌜ ringLeast ≤ size ⌝ }
+    ensures { λ r. ⌜ r ≡ badDataCount size count ⌝ }
+{
+    if count == 0 {
+        return true;
+    }
+    size - 3 < count
+}
+
+// Whether a data command's count word has another DTYPE than 000, a reserved bit set, or a bad count.
+fn bad_data_word(size: usize, counted: u32) -> bool
+    requires { ⌜ ringLeast ≤ size ⌝ }
+    ensures { λ r. ⌜ r ≡ badDataWord size counted ⌝ }
+{
+    if fields::bits(counted, 31, 29) != 0b000 {
+        return true;
+    }
+    if fields::bits(counted, 28, 16) != 0 {
+        return true;
+    }
+    bad_data_count(size, data_count(counted))
+}
+
+// The same of a command of any kind.
+fn bad_data(size: usize, kind: Kind, counted: u32) -> bool
+    requires { ⌜ ringLeast ≤ size ⌝ }
+    ensures { λ r. ⌜ r ≡ badData size kind counted ⌝ }
+{
+    match kind {
+        Kind::Blt => false,
+        Kind::Vector => false,
+        Kind::Table => false,
+        Kind::Data => bad_data_word(size, counted),
     }
 }
 
@@ -105,17 +177,19 @@ fn word_count(kind: Kind) -> usize
         Kind::Blt => 16,
         Kind::Vector => 13,
         Kind::Table => 1,
+        Kind::Data => 0,
     }
 }
 
-// How many words a command of this kind has: few enough for every ring, if 29 does not apply.
+// How many words a command of this kind has: few enough for every ring, if it is no data command and 29 does not apply.
 pub fn length_of(kind: Kind, counted: u32) -> usize
-    ensures { λ r. ⌜ (r ≡ commandLength kind counted) × (badTable kind counted ≡ false → r ≤ ringLeast) ⌝ }
+    ensures { λ r. ⌜ (r ≡ commandLength kind counted) × (isData kind ≡ false → badTable kind counted ≡ false → r ≤ ringLeast) ⌝ }
 {
     match kind {
         Kind::Blt => 17,
         Kind::Vector => 14,
         Kind::Table => 3 + data_count(counted),
+        Kind::Data => 2 + data_count(counted),
     }
 }
 
@@ -137,13 +211,14 @@ pub fn drawn_by(header: u32) -> Drawn
         Kind::Blt => drawn_if(fields::is_set(header, 15), Primitive::Blt),
         Kind::Vector => drawn_if(fields::is_set(header, 12), Primitive::Vector),
         Kind::Table => Drawn::Nothing,
+        Kind::Data => Drawn::Nothing,
     }
 }
 
 // ---- waiting for a command of so many words, with W or without
 
 // Whether W stands on a command that begins at ring word 0 or runs across the ring's end.
-fn bad_return(size: usize, read: usize, length: usize, w: bool) -> bool
+pub fn bad_return(size: usize, read: usize, length: usize, w: bool) -> bool
     requires { ⌜ read < size ⌝ }
     ensures { λ r. ⌜ r ≡ badReturn size read length w ⌝ }
 {
@@ -156,21 +231,55 @@ fn bad_return(size: usize, read: usize, length: usize, w: bool) -> bool
     false
 }
 
-// The number that the header gives, of a table load with its count word, or 0.
-pub fn header_refusal(size: usize, read: usize, header: u32, counted: u32) -> u32
-    requires { ⌜ read < size ⌝ }
-    ensures { λ r. ⌜ r ≡ first (headerRules size read header counted) ⌝ }
+// Whether a command that is no data command comes while a BLT wants data.
+fn is_unwanted(wants: bool, kind: Kind) -> bool
+    ensures { λ r. ⌜ r ≡ unwanted wants kind ⌝ }
+{
+    let data = is_data(kind);
+    if wants {
+        return !data;
+    }
+    false
+}
+
+// Whether it is data that nobody wants.
+fn is_unasked(wants: bool, kind: Kind) -> bool
+    ensures { λ r. ⌜ r ≡ unasked wants kind ⌝ }
+{
+    let data = is_data(kind);
+    if wants {
+        return false;
+    }
+    data
+}
+
+// The number that the header gives, of a table load or a data command with its count word, or 0.
+pub fn header_refusal(wants: bool, size: usize, read: usize, header: u32, counted: u32) -> u32
+    requires { ⌜ (read < size) × (ringLeast ≤ size) ⌝ }
+    ensures { λ r. ⌜ r ≡ first (headerRules wants size read header counted) ⌝ }
 {
     let kind = kind_of(header);
     let bad = bad_header(header);
-    let count = bad_table(kind, counted);
+    let unwanted = is_unwanted(wants, kind);
+    let unasked = is_unasked(wants, kind);
+    let table = bad_table(kind, counted);
+    let data = bad_data(size, kind, counted);
     let length = length_of(kind, counted);
     let back = bad_return(size, read, length, returns(header));
     if bad {
         return 21;
     }
-    if count {
+    if unwanted {
+        return 30;
+    }
+    if unasked {
+        return 31;
+    }
+    if table {
         return 29;
+    }
+    if data {
+        return 32;
     }
     if back {
         return 22;
@@ -193,28 +302,48 @@ pub fn whole_words(size: usize, read: usize, length: usize, w: bool) -> usize
     length
 }
 
-// How many words must wait before the command is loaded or, where it has a number, refused by that.
-fn needed_words(size: usize, read: usize, header: u32, length: usize, number: u32) -> usize
+// Whether its header alone refuses the command.
+fn bad_start(wants: bool, header: u32) -> bool
+    ensures { λ r. ⌜ r ≡ badStart wants header ⌝ }
+{
+    let kind = kind_of(header);
+    let bad = bad_header(header);
+    let unwanted = is_unwanted(wants, kind);
+    let unasked = is_unasked(wants, kind);
+    if bad {
+        return true;
+    }
+    if unwanted {
+        return true;
+    }
+    unasked
+}
+
+// How many words must wait before the command is accepted or, where it has a number, refused by that.
+fn needed_words(
+    wants: bool,
+    size: usize,
+    read: usize,
+    header: u32,
+    length: usize,
+    number: u32,
+) -> usize
     requires { ⌜ read < size ⌝ }
-    ensures { λ r. ⌜ r ≡ neededWords size read header length number ⌝ }
+    ensures { λ r. ⌜ r ≡ neededWords wants size read header length number ⌝ }
 {
     let whole = whole_words(size, read, length, returns(header));
     if number == 0 {
         return whole;
     }
-    let bad = bad_header(header);
+    let bad = bad_start(wants, header);
     if bad {
         return 1;
     }
-    match kind_of(header) {
-        Kind::Blt => 1,
-        Kind::Vector => 1,
-        Kind::Table => 3,
-    }
+    1 + count_place(kind_of(header))
 }
 
 // The place n further on, of `size` places that go round.
-fn ahead(size: usize, at: usize, n: usize) -> usize
+pub fn ahead(size: usize, at: usize, n: usize) -> usize
     requires { ⌜ (at < size) × (n ≤ size) ⌝ }
     ensures { λ r. ⌜ (r ≡ (at + n) % size) × (r < size) ⌝ }
 {
@@ -239,12 +368,14 @@ pub fn read_after(size: usize, read: usize, length: usize, w: bool) -> usize
 // ---- one look at the header
 
 // What stands at the read pointer: a command of which too few words wait, one that its header or its count word refuses, with the
-// number, or a whole one, with where the read pointer stands after it: a table load with its count, any other with what it draws.
+// number, or a whole one: a data command with its count and its W, or, with where the read pointer stands after it, a table load with
+// its count, or any other with what it draws.
 pub enum Seen {
     Waits,
     Refused(u32),
     Whole { drawn: Drawn, next: usize },
     Table { count: usize, next: usize },
+    Data { count: u32, returns: bool },
 }
 
 // A refusal that is judged as soon as so many words wait.
@@ -297,10 +428,44 @@ fn look_table(size: usize, read: usize, there: usize, w: bool, counted: u32) -> 
     Seen::Table { count, next }
 }
 
-// The header is the word at the read pointer and `counted` the count word there, whether they wait or not.
+// What is seen of a data command that a BLT wants.
+fn look_data(size: usize, read: usize, there: usize, w: bool, counted: u32) -> Seen
+    requires { ⌜ (read < size) × (ringLeast ≤ size) ⌝ }
+    ensures { λ r. ⌜ r ≡ dataSeen size read there w counted ⌝ }
+{
+    let length = length_of(Kind::Data, counted);
+    let uncounted = bad_data_word(size, counted);
+    let across = bad_return(size, read, length, w);
+    if uncounted {
+        return refused(there, 2, 32);
+    }
+    if across {
+        return refused(there, 2, 22);
+    }
+    let whole = whole_words(size, read, length, w);
+    if there < whole {
+        return Seen::Waits;
+    }
+    let count = fields::bits(counted, 15, 0);
+    Seen::Data { count, returns: w }
+}
+
+// What is seen while a BLT wants data.
+fn look_wanted(size: usize, read: usize, there: usize, w: bool, kind: Kind, counted: u32) -> Seen
+    requires { ⌜ (read < size) × (ringLeast ≤ size) ⌝ }
+    ensures { λ r. ⌜ r ≡ wantedSeen size read there w kind counted ⌝ }
+{
+    let data = is_data(kind);
+    if data {
+        return look_data(size, read, there, w, counted);
+    }
+    refused(there, 1, 30)
+}
+
+// While nobody wants data. The header is the word at the read pointer and `counted` the count word there, whether they wait or not.
 pub fn look(size: usize, read: usize, write: usize, header: u32, counted: u32) -> Seen
     requires { ⌜ (read < size) × (write < size) × (ringLeast ≤ size) ⌝ }
-    ensures { λ r. ⌜ r ≡ look size read write header counted ⌝ }
+    ensures { λ r. ⌜ r ≡ look false size read write header counted ⌝ }
 {
     let there = ring::waiting_words(size, read, write);
     let bad = bad_header(header);
@@ -312,18 +477,40 @@ pub fn look(size: usize, read: usize, write: usize, header: u32, counted: u32) -
         Kind::Blt => look_plain(size, read, there, 17, w, drawn_by(header)),
         Kind::Vector => look_plain(size, read, there, 14, w, drawn_by(header)),
         Kind::Table => look_table(size, read, there, w, counted),
+        Kind::Data => refused(there, 1, 31),
     }
 }
 
-// Whether the command can be loaded or refused. It is not asked of `look`, which has one caller so that the compiler inlines it.
-pub fn is_ready(size: usize, read: usize, write: usize, header: u32, counted: u32) -> bool
-    requires { ⌜ (read < size) × (write < size) ⌝ }
-    ensures { λ r. ⌜ r ≡ isReady size read write header counted ⌝ }
+// The same while a BLT wants data.
+pub fn look_for_data(size: usize, read: usize, write: usize, header: u32, counted: u32) -> Seen
+    requires { ⌜ (read < size) × (write < size) × (ringLeast ≤ size) ⌝ }
+    ensures { λ r. ⌜ r ≡ look true size read write header counted ⌝ }
+{
+    let there = ring::waiting_words(size, read, write);
+    let bad = bad_header(header);
+    if bad {
+        return refused(there, 1, 21);
+    }
+    let w = returns(header);
+    look_wanted(size, read, there, w, kind_of(header), counted)
+}
+
+// Whether the command can be accepted or refused. It is not asked of `look`, which has one caller so that the compiler inlines it.
+pub fn is_ready(
+    wants: bool,
+    size: usize,
+    read: usize,
+    write: usize,
+    header: u32,
+    counted: u32,
+) -> bool
+    requires { ⌜ (read < size) × (write < size) × (ringLeast ≤ size) ⌝ }
+    ensures { λ r. ⌜ r ≡ isReady wants size read write header counted ⌝ }
 {
     let there = ring::waiting_words(size, read, write);
     let length = length_of(kind_of(header), counted);
-    let number = header_refusal(size, read, header, counted);
-    let needed = needed_words(size, read, header, length, number);
+    let number = header_refusal(wants, size, read, header, counted);
+    let needed = needed_words(wants, size, read, header, length, number);
     needed <= there
 }
 
@@ -360,6 +547,8 @@ fn register_of(kind: Kind, i: usize) -> usize
         Kind::Blt => i,
         Kind::Vector => vector_register(i),
         Kind::Table => LUT_INDEX,
+        // it has no such word
+        Kind::Data => 0,
     }
 }
 
@@ -440,6 +629,7 @@ fn vector_piece(kind: Kind, read: usize, size: usize) -> bool
         Kind::Blt => false,
         Kind::Vector => 14 <= size - read,
         Kind::Table => false,
+        Kind::Data => false,
     }
 }
 
@@ -471,6 +661,7 @@ fn in_piece(kind: Kind, read: usize, size: usize) -> bool
         Kind::Blt => 17 <= size - read,
         Kind::Vector => false,
         Kind::Table => false,
+        Kind::Data => false,
     }
 }
 
@@ -526,7 +717,7 @@ pub fn load_table(
     header: u32,
     count: usize,
 ) -> [u32; REGISTERS]
-    requires { ⌜ (kindOf header ≡ TableKind) × (count ≡ dataCount (countWord (now ring) read)) × (count ≤ tableLength) × (read < length (now ring)) × (ringLeast ≤ length (now ring)) ⌝ }
+    requires { ⌜ (kindOf header ≡ TableKind) × (count ≡ dataCount (countWord TableKind (now ring) read)) × (count ≤ tableLength) × (read < length (now ring)) × (ringLeast ≤ length (now ring)) ⌝ }
     ensures registers { λ r. ⌜ r ≡ loaded (now (ring .entry)) read header registers ⌝ }
     ensures table { λ r. ⌜ now (table .exit) ≡ loadedTable (now (ring .entry)) read header registers (now (table .entry)) ⌝ }
 {

@@ -2,30 +2,33 @@
 -- could be done with the final pointer in.
 use Prim.Native.Nat.{ℕ, zero, suc, _+_, _-_, _%_, _≤_, _<_}
 use mathlib.Core.Path.{_≡_, refl, sym, ap, subst, _∙_}
-use mathlib.Core.Bool.{Bool, true, false}
+use mathlib.Core.Bool.{Bool, true, false, _||_}
 use mathlib.Core.List.{List, [], _∷_}
 use native.Mathlib.Omega.{arith}
 use native.Mathlib.Nat.{add-zero, mod-lt, mod-self, mod-eq-of-lt}
 use lib.ListN.{length}
 use borrow.Author.Tests.{ltb-false, eqb-true}
-use Rattle.model.specs.Choice.{_<?_, _=?_, if_then_else_, neither}
-use Rattle.model.specs.Refusals.{Rule, first}
+use Rattle.model.specs.Choice.{_<?_, _≤?_, _=?_, if_then_else_, not-both, neither}
+use Rattle.model.specs.Refusals.{Rule, _when_, first}
 use Rattle.model.specs.Ring.{Agree, distance, waiting, wordAt, distance-lt, distance-leads, empty}
 use Rattle.model.specs.Lookup.{dataCount, nextIndex, dataStored}
-use Rattle.model.specs.Command.{kindOf, badHeader, wordRegisters, commandLength, drawnBy, badReturn, badTable, judgedWords, wholeWords, loadWords, enabled, advanced, loaded, filled, loadedTable, readAfter}
-use Rattle.model.specs.Unit.{Machine, Done, headerAt, loadedAt, countedAt, lengthAt, returnsAt, headerRefusal, drawnRules, commandRefusal, needed, ready, stopped, loadedCore, tableAfter, drawnCore, unit, done, possible, units}
-use Rattle.model.specs.Steps.{machine, Step, loads, refuses, draws, step-of, possible-later}
+use Rattle.model.specs.Command.{kindOf, badHeader, wordRegisters, countPlace, countWord, dataLength, commandLength, drawnBy, badStart, badReturn, wholeWords, loadWords, enabled, loaded, filled, loadedTable, readAfter}
+use Rattle.model.specs.Host.{hostWord, drawHost}
+use Rattle.model.specs.Unit.{Machine, Done, headerAt, loadedAt, countedAt, lengthAt, returnsAt, headerRefusal, drawnRules, commandRefusal, needed, ready, stopped, loadedCore, takenCore, acceptedCore, tableAfter, pixelCount, drawnCore, fedWord, fedCore, unit, wants, drawing, done, possible, units}
+use Rattle.model.specs.Steps.{machine, Step, loads, takes, refuses, draws, feeds, step-of, possible-later}
 use Rattle.model.specs.declared.Core.{Core}
+use Rattle.model.specs.declared.Feed.{Feed}
 use Rattle.model.specs.declared.Kind.{Kind}
-use Rattle.model.specs.declared.Kind.the-variants.{Blt, Vector, Table}
+use Rattle.model.specs.declared.Kind.the-variants.{Blt, Vector, Table, Data}
+use Rattle.model.specs.declared.Primitive.the-variants.{Blt as BltPrimitive}
 use Rattle.laws.specs.Modular.{distance-sum, distance-next}
-use Rattle.laws.specs.Units.{unit-loads, unit-refuses, unit-draws, drawing-possible, idle-possible, possible-running, possible-ready, units-zero, units-step, units-each}
-use Rattle.laws.specs.Fit.{Fit, command-first, accepted-header, accepted-return, fit-unit}
+use Rattle.laws.specs.Units.{unit-accepts, unit-refuses, unit-draws, unit-feeds, drawing-possible, idle-possible, possible-running, possible-ready, units-zero, units-step, units-each}
+use Rattle.laws.specs.Fit.{Fit, FitFed, fed-fit, command-first, accepted-header, accepted-return, fit-unit}
 use Rattle.laws.specs.WellFormed.{unit-keeps}
-use Rattle.demands.specs.Waits.{good-header, Needs, its-header, all-words, needs-of, needs-judged, needs-some, whole-waits, ready-needs, ready-whole}
+use Rattle.demands.specs.Waits.{good-header, own-words, Needs, its-header, all-words, needs-of, needs-judged, needs-some, whole-waits, ready-needs, ready-whole}
 
 -- where an engine stands on the run of words from o to the final position f, with the write pointer at w: a state that row 3 does
--- not refuse
+-- not refuse, so that while a data command feeds pixels its words lie before w
 pub record OnRun (n o f w : ℕ) (c : Core) : Type 0 where
   pub size-is : c .ringlength ≡ n
   pub origin-in : o < n
@@ -96,7 +99,7 @@ advance n read length true h e = go (length <? n - read) refl (ltb-false n (read
 -- a unit takes the read pointer past words that wait, if it takes it anywhere
 unit-moves : (ring : List ℕ) (m : Machine) (w : ℕ) → Fit (m .core) w → possible ring (m .core) w ≡ true
     → (k : ℕ) × (k ≤ waiting (m .core .ringlength) (m .core .read) w) × (unit ring m .core .read ≡ (m .core .read + k) % m .core .ringlength)
-unfolding loadedCore stopped drawnCore
+unfolding loadedCore takenCore stopped drawnCore fedCore
 unit-moves ring m w fit e = go (step-of ring m)
   where
     c : Core
@@ -105,15 +108,31 @@ unit-moves ring m w fit e = go (step-of ring m)
     stays : c .read ≡ (c .read + 0) % c .ringlength
     stays = rw add-zero (sym (mod-eq-of-lt (fit .read-in)))
 
+    -- past a data command, or not yet
+    fed : (feed : Feed) (passed : Bool) → badReturn (c .ringlength) (c .read) (dataLength (feed .count)) (feed .returns) ≡ false
+        → wholeWords (c .ringlength) (c .read) (dataLength (feed .count)) (feed .returns) ≤ waiting (c .ringlength) (c .read) w
+        → (k : ℕ) × (k ≤ waiting (c .ringlength) (c .read) w)
+        × ((if passed then readAfter (c .ringlength) (c .read) (dataLength (feed .count)) (feed .returns) else c .read)
+        ≡ (c .read + k) % c .ringlength)
+    fed feed true b l = (_, l, advance (c .ringlength) (c .read) (dataLength (feed .count)) (feed .returns) (fit .read-in) b)
+    fed feed false b l = (0, omega arith, stays)
+
     go : Step ring m → (k : ℕ) × (k ≤ waiting (c .ringlength) (c .read) w) × (unit ring m .core .read ≡ (c .read + k) % c .ringlength)
-    go (loads p z u) =
+    go (loads p z d u) =
         let good = good-header ring c .0 (accepted-header ring c z) in (
           _,
           whole-waits ring c w .0 (ready-whole ring c w (possible-ready ring c w p e) good),
           rw u (advance (c .ringlength) (c .read) (lengthAt ring c) (returnsAt ring c) (fit .read-in) (accepted-return ring c z)),
         )
+    go (takes p z d u) = (0, omega arith, rw u stays)
     go (refuses p z u) = (0, omega arith, rw u stays)
     go (draws primitive k p u) = (0, omega arith, rw u stays)
+    go (feeds k feed p u) =
+        let f = fed-fit c w fit k feed p in
+        let x = fed feed
+        (pixelCount BltPrimitive (c .registers) ≤? k + 1 || feed .before + feed .count ≤? hostWord (c .registers) (k + 1))
+        (f .good-return) (f .all-wait) in
+        (x .0, x .1, rw u (x .2))
 
 pub unit-on : (n o f w : ℕ) (ring : List ℕ) (m : Machine) → OnRun n o f w (m .core) → possible ring (m .core) w ≡ true
     → OnRun n o f w (unit ring m .core)
@@ -169,12 +188,19 @@ registers-length : (kind : Kind) (counted : ℕ) → length (wordRegisters kind)
 registers-length Blt counted = omega arith
 registers-length Vector counted = omega arith
 registers-length Table counted = omega arith
+registers-length Data counted = omega arith
+
+-- where the header alone refuses a command nothing hangs on the rules that come after
+start-first : (a b d : Bool) (rules others : List Rule) → a || b || d ≡ true
+    → first (21 when a ∷ 30 when b ∷ 31 when d ∷ rules) ≡ first (21 when a ∷ 30 when b ∷ 31 when d ∷ others)
+unfolding first
+start-first true b d rules others e = refl
+start-first false true d rules others e = refl
+start-first false false true rules others e = refl
+start-first false false false rules others e = absurd (not-both false e refl)
 
 module _ (n o f w : ℕ) (ring all : List ℕ) (ring-is : length ring ≡ n) (all-is : length all ≡ n) (agree : Agree ring all n o w) where
-  module _ (c : Core) (on : OnRun n o f w c) (now : ready ring c w ≡ true) where
-    waits : needed ring c ≤ waiting n (c .read) w
-    waits = subst (λ (q : ℕ). needed ring c ≤ waiting q (c .read) w) (on .size-is) (ready-needs ring c w now)
-
+  module _ (c : Core) (on : OnRun n o f w c) where
     -- word k from the read pointer, where more than k wait
     word-same : (k : ℕ) → k < waiting n (c .read) w → wordAt ring (c .read) k ≡ wordAt all (c .read) k
     unfolding wordAt waiting
@@ -184,43 +210,50 @@ module _ (n o f w : ℕ) (ring all : List ℕ) (ring-is : length ring ≡ n) (al
         let t = distance-next n o (c .read) k (on .origin-in) (on-read on) (omega arith) in
         rw (ring-is, all-is) (agree ((c .read + k) % n) (mod-lt _ (omega (arith, on-read on))) (rw t (omega arith)))
 
+    -- the word of a pixel that a data command feeds: its words wait
+    fed-same : (k : ℕ) (feed : Feed) → FitFed c w k feed
+        → fedWord ring c feed (hostWord (c .registers) k) ≡ fedWord all c feed (hostWord (c .registers) k)
+    unfolding fedWord
+    fed-same k feed p =
+        let own = own-words (c .ringlength) (c .read) (dataLength (feed .count)) (feed .returns) in
+        let l : 2 + (hostWord (c .registers) k - feed .before) < waiting (c .ringlength) (c .read) w =
+        omega (arith, p .begun, p .feeding, p .all-wait) in
+        word-same _ (rw (on .size-is) at l)
+
+  module _ (c : Core) (on : OnRun n o f w c) (now : ready ring c w ≡ true) where
+    waits : needed ring c ≤ waiting n (c .read) w
+    waits = subst (λ (q : ℕ). needed ring c ≤ waiting q (c .read) w) (on .size-is) (ready-needs ring c w now)
+
     header-same : headerAt ring c ≡ headerAt all c
     unfolding waiting
     header-same = agree (c .read) (on-read on) (omega (arith, waits, needs-some ring c, waits-from on))
 
-    -- what hangs on the kind and, of a table load, on its count word: where 21 does not apply three words of a table load wait
-    count-same : {A : Type 0} (of : Kind → ℕ → A) → ((x y : ℕ) → of Blt x ≡ of Blt y) → ((x y : ℕ) → of Vector x ≡ of Vector y)
-        → badHeader (headerAt ring c) ≡ false
-        → of (kindOf (headerAt ring c)) (countedAt ring c) ≡ of (kindOf (headerAt ring c)) (countedAt all c)
-    count-same of blt vector b = go (kindOf (headerAt ring c)) refl
-      where
-        go : (k : Kind) → kindOf (headerAt ring c) ≡ k → of k (countedAt ring c) ≡ of k (countedAt all c)
-        go Blt e = blt _ _
-        go Vector e = vector _ _
-        go Table e = ap (of Table) (word-same 2 (omega (arith, waits, needs-judged ring c b, ap judgedWords e)))
+    abbrev start : Bool
+    start = badStart (wants (c .place)) (headerAt ring c)
 
-    length-same : badHeader (headerAt ring c) ≡ false → lengthAt ring c ≡ lengthAt all c
-    length-same b = count-same commandLength (λ x y. refl) (λ x y. refl) b ∙ rw header-same
+    -- the count word waits, where none of 21, 30 and 31 applies
+    count-same : start ≡ false → countedAt ring c ≡ countedAt all c
+    count-same b =
+        word-same c on (countPlace (kindOf (headerAt ring c))) (omega (arith, waits, needs-judged ring c b)) ∙ rw header-same
 
-    -- where 21 applies nothing hangs on the count word
     number-same : headerRefusal ring c ≡ headerRefusal all c
-    unfolding headerRefusal first
-    number-same = go (badHeader (headerAt ring c)) refl
+    unfolding headerRefusal
+    number-same = go start refl
       where
-        go : (b : Bool) → badHeader (headerAt ring c) ≡ b → headerRefusal ring c ≡ headerRefusal all c
-        go true b = rw (header-same, rw header-same at b)
-        go false b = rw (length-same b, count-same badTable (λ x y. refl) (λ x y. refl) b, header-same)
+        go : (b : Bool) → start ≡ b → headerRefusal ring c ≡ headerRefusal all c
+        go true b = rw header-same (start-first (badHeader (headerAt all c)) _ _ _ _ (rw header-same at b))
+        go false b = rw (count-same b, header-same)
 
-    -- where the header refuses nothing 21 does not apply
-    no-21 : headerRefusal ring c ≡ 0 → badHeader (headerAt ring c) ≡ false
-    no-21 z = good-header ring c .0 z .0
+    -- where the header refuses nothing none of them applies
+    good-start : headerRefusal ring c ≡ 0 → start ≡ false
+    good-start z = let g = good-header ring c .0 z in rw (g .0, g .1 .0, g .1 .1 .0)
 
     needed-same : needed ring c ≡ needed all c
     unfolding needed
     needed-same = go (headerRefusal ring c =? 0) refl
       where
         go : (b : Bool) → headerRefusal ring c =? 0 ≡ b → needed ring c ≡ needed all c
-        go true b = rw (b, ← number-same, b, length-same (no-21 (eqb-true _ _ b)), header-same)
+        go true b = rw (b, ← number-same, b, count-same (good-start (eqb-true _ _ b)), header-same)
         go false b = rw (b, ← number-same, b, header-same)
 
     ready-same : ready all c w ≡ true
@@ -234,7 +267,7 @@ module _ (n o f w : ℕ) (ring all : List ℕ) (ring-is : length ring ≡ n) (al
         where
           go : Needs ring c → wordAt ring (c .read) k ≡ wordAt all (c .read) k
           go (its-header b e) = absurd (b (good-header ring c .0 good))
-          go (all-words g e l) = word-same k (omega (arith, waits))
+          go (all-words g e l) = word-same c on k (omega (arith, waits))
 
       enabled-same : enabled ring (c .read) (headerAt ring c) (c .registers) ≡ enabled all (c .read) (headerAt ring c) (c .registers)
       enabled-same =
@@ -243,10 +276,7 @@ module _ (n o f w : ℕ) (ring all : List ℕ) (ring-is : length ring ≡ n) (al
 
       loaded-same : loadedAt ring c ≡ loadedAt all c
       unfolding loaded
-      loaded-same =
-          let registers = enabled all (c .read) (headerAt ring c) (c .registers) in
-          rw enabled-same
-          (count-same (λ kind counted. advanced kind counted registers) (λ x y. refl) (λ x y. refl) (no-21 good) ∙ rw header-same)
+      loaded-same = rw (enabled-same, count-same (good-start good), header-same)
 
       table-same : (table : List ℕ) → tableAfter ring c table ≡ tableAfter all c table
       unfolding tableAfter loadedTable
@@ -256,9 +286,10 @@ module _ (n o f w : ℕ) (ring all : List ℕ) (ring-is : length ring ≡ n) (al
               → filled k ring (c .read) index table ≡ filled k all (c .read) index table
           go Blt e index = refl
           go Vector e index = refl
+          go Data e index = refl
           go Table e index =
-              let counted = countedAt ring c in
-              let l : lengthAt ring c ≡ 3 + dataCount counted = ap (λ (k : Kind). commandLength k counted) e in
+              let counted = countWord Table ring (c .read) in
+              let l : lengthAt ring c ≡ 3 + dataCount counted = ap (λ (k : Kind). commandLength k (countWord k ring (c .read))) e in
               data-same ring all (c .read) 3 (dataCount counted) index table (λ j h. own-same (3 + j) (omega arith))
               ∙ ap (λ (x : ℕ). dataStored all (c .read) 3 (dataCount x) index table) (own-same 2 (omega arith))
 
@@ -274,10 +305,10 @@ module _ (n o f w : ℕ) (ring all : List ℕ) (ring-is : length ring ≡ n) (al
         go false e p = rw (p, e)
         go true e p = rw (p, e, loaded-same (p ∙ eqb-true _ _ e), header-same)
 
-    core-same : commandRefusal ring c ≡ 0 → loadedCore ring c ≡ loadedCore all c
-    unfolding loadedCore
+    core-same : commandRefusal ring c ≡ 0 → acceptedCore ring c ≡ acceptedCore all c
+    unfolding loadedCore takenCore
     core-same z =
-        let good = accepted-header ring c z in rw (loaded-same good, length-same (no-21 good), header-same)
+        let good = accepted-header ring c z in rw (loaded-same good, count-same (good-start good), header-same)
 
   pub unit-same : (m : Machine) → OnRun n o f w (m .core) → possible ring (m .core) w ≡ true
       → (possible all (m .core) w ≡ true) × (unit ring m ≡ unit all m)
@@ -289,21 +320,32 @@ module _ (n o f w : ℕ) (ring all : List ℕ) (ring-is : length ring ≡ n) (al
       z : c .stop ≡ 0
       z = possible-running ring c w e
 
-      go : Step ring m → (possible all c w ≡ true) × (unit ring m ≡ unit all m)
-      go (loads p h u) =
+      accepted : drawing (c .place) ≡ false → commandRefusal ring c ≡ 0 → (possible all c w ≡ true) × (unit ring m ≡ unit all m)
+      accepted p h =
           let r = possible-ready ring c w p e in (
             idle-possible all c w z p ∙ ready-same c on r,
-            u ∙ ap (λ (d : Core). machine d (tableAfter ring c (m .table)) (m .frame)) (core-same c on r h)
-                ∙ ap (λ (t : List ℕ). machine (loadedCore all c) t (m .frame)) (table-same c on r (accepted-header ring c h) (m .table))
-                ∙ sym (unit-loads all m p (sym (refusal-same c on r) ∙ h)),
+            unit-accepts ring m p h
+                ∙ ap (λ (d : Core). machine d (tableAfter ring c (m .table)) (m .frame)) (core-same c on r h)
+                ∙ ap (λ (t : List ℕ). machine (acceptedCore all c) t (m .frame)) (table-same c on r (accepted-header ring c h) (m .table))
+                ∙ sym (unit-accepts all m p (sym (refusal-same c on r) ∙ h)),
           )
+
+      go : Step ring m → (possible all c w ≡ true) × (unit ring m ≡ unit all m)
+      go (loads p h d u) = accepted p h
+      go (takes p h d u) = accepted p h
       go (refuses p h u) =
           let r = possible-ready ring c w p e in
           let same = refusal-same c on r in (
             idle-possible all c w z p ∙ ready-same c on r,
             u ∙ ap (λ (k : ℕ). machine (stopped c k) (m .table) (m .frame)) same ∙ sym (unit-refuses all m p (λ q. h (same ∙ q))),
           )
-      go (draws primitive k p u) = (drawing-possible all c w primitive k z p, u ∙ sym (unit-draws all m primitive k p))
+      go (draws primitive k p u) = (drawing-possible all c w z (ap drawing p), u ∙ sym (unit-draws all m primitive k p))
+      go (feeds k feed p u) = (
+        drawing-possible all c w z (ap drawing p),
+        u ∙ ap (λ (x : ℕ). machine (fedCore c (k + 1) feed) (m .table) (drawHost (c .registers) (m .table) k x (m .frame)))
+            (fed-same c on k feed (fed-fit c w (on .fit) k feed p))
+            ∙ sym (unit-feeds all m k feed p),
+      )
 
   -- ---- a run with the write pointer at w is as many units with the final pointer in
 

@@ -10,12 +10,12 @@ use mathlib.Core.List.{List, _∷_}
 use native.Mathlib.Omega.{arith}
 use lib.ListN.{length}
 use borrow.Author.Tests.{eqb-true, eqb-false, eq-eqb, ne-eqb}
-use Rattle.model.specs.Choice.{_=?_, if_then_else_, true-or-false, not-both, if-both}
+use Rattle.model.specs.Choice.{_=?_, if_then_else_, true-or-false, not-both, neither, if-both}
 use Rattle.model.specs.Refusals.{Rule, _when_, first, NoRule, Each, positive, first-later, first-each, none-first}
 use Rattle.model.specs.Ring.{waiting, room}
-use Rattle.model.specs.Command.{kindOf, badHeader, drawnBy, judgedWords}
-use Rattle.model.specs.Unit.{Machine, done, headerAt, loadedAt, headerRefusal, drawnRules, commandRefusal, ready, stopped, loadedCore, drawnCore, unit, drawing, possible, units}
-use Rattle.model.specs.Steps.{machine, stopped-keeps}
+use Rattle.model.specs.Command.{kindOf, badHeader, unwanted, unasked, badStart, drawnBy, judgedWords}
+use Rattle.model.specs.Unit.{Machine, done, headerAt, loadedAt, headerRefusal, drawnRules, commandRefusal, ready, stopped, loadedCore, takenCore, drawnCore, fedCore, unit, wants, drawing, possible, units}
+use Rattle.model.specs.Steps.{machine, Step, loads, takes, refuses, draws, feeds, step-of, stopped-keeps}
 use Rattle.model.specs.Calls.{unfit, setupRules, runRules, setup, publish, restart, askRoom, runWord, runRefusal, runUnits, ranAnswer, run, freshState, roomOf, roomAfter, stateAfter}
 use Rattle.model.specs.Course.{Call, publishing, running, asking, restarting, Configuration}
 use Rattle.model.specs.Perform.{answerOf, perform, start, Accepted}
@@ -25,14 +25,13 @@ use Rattle.model.specs.declared.Answer.{Answer}
 use Rattle.model.specs.declared.Drawn.{Drawn}
 use Rattle.model.specs.declared.Drawn.the-variants.{Nothing, Draws}
 use Rattle.model.specs.declared.Kind.{Kind}
-use Rattle.model.specs.declared.Primitive.{Primitive}
-use Rattle.model.specs.declared.Place.the-variants.{Drawing}
+use Rattle.model.specs.declared.Place.the-variants.{Idle}
 use Rattle.model.specs.declared.RunWord.{RunWord}
 use Rattle.model.specs.declared.RunWord.the-variants.{Waiting}
 use Rattle.model.specs.declared.Reply.the-variants.{Refused, Ran}
-use Rattle.laws.specs.Fit.{Fit, command-first, fit-parts, parts-fit, fit-later, fit-restarted, fit-fresh}
+use Rattle.laws.specs.Fit.{Fit, command-first, wanting-is, fit-parts, parts-fit, fit-later, fit-restarted, fit-fresh}
 use Rattle.laws.specs.WellFormed.{wellformed-units}
-use Rattle.laws.specs.Units.{unit-loads, unit-refuses, unit-draws, idle-possible, possible-ready, units-stop}
+use Rattle.laws.specs.Units.{unit-refuses, idle-possible, possible-ready, units-stop}
 use Rattle.demands.specs.Waits.{Whole, GoodHeader, Unjudged, NoCommand, no-word, not-whole, not-judged, Waits, judged-some, judged-within, waits-word, good-header, ready-whole, not-ready, none-ready}
 use Rattle.demands.specs.Table.{rulesOf, Table, call-first, setup-first, table}
 use Rattle.demands.specs.Courses.{Did, did, accepted-rules, refused-keeps}
@@ -61,14 +60,22 @@ pub record AcceptedReports : Type 0 where
       → Reported (answerOf ring call y)
 
 -- "A bad command stops the engine with its number, unexecuted, registers and frame memory unchanged": nothing but the stop
--- number moves, and it is not retired. The lookup table stays too: W4 has "demands 1 and 2 count it with the registers". Ruled out:
--- an engine that loads registers, or words of that table, from a command that it then refuses; one that skips a bad command.
+-- number moves, and it is not retired. The lookup table stays too: W4 has "demands 1 and 2 count it with the registers". (And W5 has
+-- "Any stop while data is wanted abandons the BLT unretired": `stopped` leaves nothing in progress.) Ruled out: an engine that loads
+-- registers, or words of that table, from a command that it then refuses; one that skips a bad command.
 abbrev pub RefusedCommand : Type 0
 RefusedCommand =
     (ring : List ℕ) (m : Machine) → drawing (m .core .place) ≡ false → (commandRefusal ring (m .core) ≡ 0 → ⊥)
     → unit ring m ≡ machine (stopped (m .core) (commandRefusal ring (m .core))) (m .table) (m .frame)
 
--- Nothing else moves it: an accepted command leaves the stop number alone, and so does a pixel. Ruled out: an engine that
+-- W5: "Any stop while data is wanted abandons the BLT unretired." Ruled out: an engine that stops by 30 and keeps the BLT, a state
+-- that row 3 refuses; one that counts the BLT as done.
+abbrev pub Abandons : Type 0
+Abandons =
+    (ring : List ℕ) (m : Machine) → wants (m .core .place) ≡ true → (commandRefusal ring (m .core) ≡ 0 → ⊥)
+    → (unit ring m .core .place ≡ Idle) × (unit ring m .core .completion ≡ m .core .completion)
+
+-- Nothing but a refusal moves the stop number: an accepted command leaves it alone, and so does a pixel. Ruled out: an engine that
 -- stops with a number after a command that it drew; one that loads a command and clears a stop number.
 abbrev pub StopStays : List ℕ → Machine → Type 0
 StopStays ring m = unit ring m .core .stop ≡ m .core .stop
@@ -76,36 +83,43 @@ StopStays ring m = unit ring m .core .stop ≡ m .core .stop
 pub record StopAlone : Type 0 where
   pub accepted-command : (ring : List ℕ) (m : Machine) → drawing (m .core .place) ≡ false → commandRefusal ring (m .core) ≡ 0
       → StopStays ring m
-  pub pixel : (ring : List ℕ) (m : Machine) (primitive : Primitive) (k : ℕ) → m .core .place ≡ Drawing primitive k → StopStays ring m
+  pub pixel : (ring : List ℕ) (m : Machine) → drawing (m .core .place) ≡ true → StopStays ring m
 
--- the numbers that the header gives, of a table load with its count word
+-- the numbers that the header alone gives
+abbrev pub ofStart : ℕ → Bool
+ofStart number = number =? 21 || number =? 30 || number =? 31
+
+-- those and the numbers that it gives with the count word of a table load or of a data command
 abbrev pub ofHeader : ℕ → Bool
-ofHeader number = number =? 21 || number =? 29 || number =? 22
+ofHeader number = ofStart number || number =? 29 || number =? 32 || number =? 22
 
--- so many words must wait before such a number is judged: one for 21, and for 22 of a BLT or a vector; three for 29 and for 22 of a
--- table load
+-- so many words must wait before such a number is judged: one for 21, 30 and 31, and for 22 of a BLT or a vector; two for 32 and for
+-- 22 of a data command; three for 29 and for 22 of a table load
 abbrev pub judgedOn : ℕ → Kind → ℕ
-judgedOn number kind = if number =? 21 then 1 else judgedWords kind
+judgedOn number kind = if ofStart number then 1 else judgedWords kind
 
 -- "21 and 22 are judged as soon as the header waits, the others when the command is whole", of an engine that draws nothing; but
--- W4 has 29 "judged as soon as three words wait and before 22, which for this kind waits for them too"
+-- W4 has 29 "judged as soon as three words wait and before 22, which for this kind waits for them too", and W5 "21, 30 and 31 when
+-- the header waits, these before every other number, 32 when the count word waits, then 22, which for this kind waits for the count
+-- word"
 pub record JudgedWhen : Type 0 where
-  -- where 21, 29 or 22 applies so many words that wait are enough, whatever else waits: the next unit stops with it. Ruled out:
+  -- where one of these applies so many words that wait are enough, whatever else waits: the next unit stops with it. Ruled out:
   -- an engine that waits for the rest of a command that has no length; one that waits for the ring's end with a W at word 0; one
-  -- that judges 29 only when the command is whole, and with a large count never; one that gives 22 where 29 applies too.
+  -- that judges 29 or 32 only when the command is whole, and with a large count never; one that gives 22 where 29 applies too; one
+  -- that takes the words of a BLT in between for data.
   pub header-waits : (ring : List ℕ) (m : Machine) (write : ℕ) → m .core .stop ≡ 0 → drawing (m .core .place) ≡ false
       → judgedOn (commandRefusal ring (m .core)) (kindOf (headerAt ring (m .core))) ≤ waiting (m .core .ringlength) (m .core .read) write
       → ofHeader (commandRefusal ring (m .core)) ≡ true
       → (possible ring (m .core) write ≡ true) × (unit ring m .core .stop ≡ commandRefusal ring (m .core))
-  -- while fewer wait, and 21 does not apply, no budget does a unit, and nothing changes. Ruled out: an engine that judges 22 at a
-  -- table load's header; one that judges 29 by a count word that is not published.
+  -- while fewer wait, and none of 21, 30 and 31 applies, no budget does a unit, and nothing changes. Ruled out: an engine that
+  -- judges 22 at a table load's or a data command's header; one that judges 29 or 32 by a count word that is not published.
   pub few-wait : (ring : List ℕ) (m : Machine) (write budget used : ℕ) → drawing (m .core .place) ≡ false
       → Unjudged ring (m .core) write → units ring write budget used m ≡ done m used
-  -- a command that a unit loads, or refuses by another number, is whole. Ruled out: an engine that judges the registers by words
+  -- a command that a unit accepts, or refuses by another number, is whole. Ruled out: an engine that judges the registers by words
   -- that are not published; one that with W returns to word 0 before the words up to the ring's end are in.
   pub others-whole : (ring : List ℕ) (c : Core) (write : ℕ) → drawing (c .place) ≡ false → possible ring c write ≡ true
       → ofHeader (commandRefusal ring c) ≡ false → Whole ring c write
-  -- and a whole one is loaded or refused by the next unit. Ruled out: an engine that answers waiting always.
+  -- and a whole one is accepted or refused by the next unit. Ruled out: an engine that answers waiting always.
   pub whole-judged : (ring : List ℕ) (c : Core) (write : ℕ) → c .stop ≡ 0 → drawing (c .place) ≡ false → Whole ring c write
       → possible ring c write ≡ true
   -- while the header is good and the command is not whole no budget does a unit, and nothing changes. Ruled out: an engine
@@ -113,9 +127,10 @@ pub record JudgedWhen : Type 0 where
   pub part-waits : (ring : List ℕ) (m : Machine) (write budget used : ℕ) → drawing (m .core .place) ≡ false
       → GoodHeader ring (m .core) → (Whole ring (m .core) write → ⊥) → units ring write budget used m ≡ done m used
 
--- "'Waiting' is said only when nothing is being drawn and no whole command waits", and none that 21, 29 or 22 refuses: `Waits`
--- has it word for word. An accepted run that leaves the engine so says it. Ruled out: an engine that answers waiting
--- always; one that waits on a bad header; one that answers spent for ever where nothing is left to do.
+-- "'Waiting' is said only when nothing is being drawn and no whole command waits", and none that the header's numbers refuse:
+-- `Waits` has it word for word. W5: "In demand 1 a BLT that wants data, with no data command accepted, counts as not being drawn." An
+-- accepted run that leaves the engine so says it. Ruled out: an engine that answers waiting always; one that waits on a bad header;
+-- one that answers spent for ever where nothing is left to do, or while a BLT wants data.
 pub record WaitingTrue : Type 0 where
   pub only-when : (ring : List ℕ) (s : State) (frame : List ℕ) (budget units room : ℕ)
       → run ring s frame budget .reply ≡ Ran Waiting units room → Waits ring (run ring s frame budget .state)
@@ -128,6 +143,7 @@ pub record Demand1 : Type 0 where
   pub refused-keeps : RefusedKeeps
   pub accepted-reports : AcceptedReports
   pub refused-command : RefusedCommand
+  pub abandons : Abandons
   pub stop-alone : StopAlone
   pub judged-when : JudgedWhen
   pub waiting-true : WaitingTrue
@@ -223,9 +239,9 @@ waiting-true = record {
 
 -- ---- when a command is judged
 
--- what holds of 0 and of every number but the first holds of what is given where the first rule does not apply
-later-each : (P : ℕ → Type 0) (rule : Rule) (rules : List Rule) → rule .applies ≡ false → P 0 → Each P rules → P (first (rule ∷ rules))
-later-each P rule rules e z h = subst P (first-later rule rules e refl) (first-each P rules z h)
+-- what holds of the number without the first rule, where that does not apply, holds of the number
+later-each : (P : ℕ → Type 0) (rule : Rule) (rules : List Rule) → rule .applies ≡ false → P (first rules) → P (first (rule ∷ rules))
+later-each P rule rules e h = subst P (first-later rule rules e refl) h
 
 module _ (ring : List ℕ) (c : Core) where
   abbrev others : Drawn → List Rule
@@ -243,20 +259,26 @@ module _ (ring : List ℕ) (c : Core) where
       let Other : ℕ → Type 0 = λ n. ofHeader n ≡ false in
       not-both _ n (first-each Other (others d) refl (others-each Other refl refl refl refl refl refl d))
 
-  -- 21 is given only where it applies
-  only-21 : badHeader (headerAt ring c) ≡ false → commandRefusal ring c =? 21 ≡ false
+  -- 21, 30 and 31 are given only where one of them applies
+  only-start : badStart (wants (c .place)) (headerAt ring c) ≡ false → ofStart (commandRefusal ring c) ≡ false
   unfolding commandRefusal
-  only-21 b =
-      let Other : ℕ → Type 0 = λ n. n =? 21 ≡ false in
-      later-each Other (21 when badHeader (headerAt ring c)) _ b refl
-      (refl, (refl, others-each Other refl refl refl refl refl refl (drawnBy (headerAt ring c))))
+  only-start b =
+      let Other : ℕ → Type 0 = λ n. ofStart n ≡ false in
+      let header = headerAt ring c in
+      let h = neither (badHeader header || unwanted (wants (c .place)) (kindOf header)) _ b in
+      let g = neither (badHeader header) _ (h .0) in
+      later-each Other (21 when badHeader header) _ (g .0)
+      (later-each Other (30 when unwanted (wants (c .place)) (kindOf header)) _ (g .1)
+      (later-each Other (31 when unasked (wants (c .place)) (kindOf header)) _ (h .1)
+      (first-each Other _ refl (refl, (refl, (refl, others-each Other refl refl refl refl refl refl (drawnBy header)))))))
 
   header-good : ofHeader (commandRefusal ring c) ≡ false → GoodHeader ring c
   unfolding headerRefusal
   header-good n = go (headerRefusal ring c =? 0) refl
     where
       number : (headerRefusal ring c ≡ 0) ⊎ (ofHeader (headerRefusal ring c) ≡ true)
-      number = first-each (λ n. (n ≡ 0) ⊎ (ofHeader n ≡ true)) _ (inl refl) (inr refl, (inr refl, (inr refl, tt)))
+      number = first-each (λ n. (n ≡ 0) ⊎ (ofHeader n ≡ true)) _ (inl refl)
+          (inr refl, (inr refl, (inr refl, (inr refl, (inr refl, (inr refl, tt))))))
 
       go : (b : Bool) → headerRefusal ring c =? 0 ≡ b → GoodHeader ring c
       go true e = good-header ring c .0 (eqb-true _ _ e)
@@ -274,9 +296,9 @@ module _ (ring : List ℕ) (c : Core) (w : ℕ) where
     where
       go : NoCommand ring c w → ⊥
       go (no-word z) =
-          omega (arith, if-both (λ (n : ℕ). 0 < n) (commandRefusal ring c =? 21) {a = 1} (omega arith) (judged-some ring c))
+          omega (arith, if-both (λ (n : ℕ). 0 < n) (ofStart (commandRefusal ring c)) {a = 1} (omega arith) (judged-some ring c))
       go (not-whole g f) = of-header ring c h g
-      go (not-judged u) = omega (arith, u .words-few, rw (only-21 ring c (u .no-21)) at l)
+      go (not-judged u) = omega (arith, u .words-few, rw (only-start ring c (u .good-start)) at l)
 
   whole-ready : Whole ring c w → ready ring c w ≡ true
   whole-ready h = ready-unless go
@@ -305,12 +327,26 @@ judged-when = record {
       units-stop ring w budget used m (none-possible ring (m .core) w p (not-whole g f));
 }
 
-stop-alone : StopAlone
-unfolding loadedCore drawnCore
-stop-alone = record {
-  accepted-command = λ ring m p e. ap (λ (k : Machine). k .core .stop) (unit-loads ring m p e);
-  pixel = λ ring m primitive k p. ap (λ (k : Machine). k .core .stop) (unit-draws ring m primitive k p);
-}
+-- ---- the stop number
+
+module _ (ring : List ℕ) (m : Machine) where
+  -- a unit that does not refuse leaves it
+  not-refused : (drawing (m .core .place) ≡ false → commandRefusal ring (m .core) ≡ 0) → StopStays ring m
+  unfolding loadedCore takenCore drawnCore fedCore
+  not-refused h = go (step-of ring m)
+    where
+      go : Step ring m → StopStays ring m
+      go (loads p e d u) = rw u
+      go (takes p e d u) = rw u
+      go (refuses p n u) = absurd (n (h p))
+      go (draws primitive k p u) = rw u
+      go (feeds k feed p u) = rw u
+
+  abandons : wants (m .core .place) ≡ true → (commandRefusal ring (m .core) ≡ 0 → ⊥)
+      → (unit ring m .core .place ≡ Idle) × (unit ring m .core .completion ≡ m .core .completion)
+  abandons p n =
+      let k = stopped-keeps (m .core) (commandRefusal ring (m .core)) in
+      rw (unit-refuses ring m (ap drawing (wanting-is (m .core .place) p)) n) (k .3, k .2)
 
 pub demand1 : Demand1
 demand1 = record {
@@ -318,7 +354,11 @@ demand1 = record {
   refused-keeps = record { refused-setup = refused-setup; refused-call = refused-keeps; asking-keeps = asking-keeps };
   accepted-reports = record { accepted-setup = accepted-setup; accepted-call = λ ring call y. accepted-call ring y call };
   refused-command = unit-refuses;
-  stop-alone = stop-alone;
+  abandons = abandons;
+  stop-alone = record {
+    accepted-command = λ ring m p e. not-refused ring m (λ q. e);
+    pixel = λ ring m p. not-refused ring m (λ q. absurd (not-both _ p q));
+  };
   judged-when = judged-when;
   waiting-true = waiting-true;
 }

@@ -9,3 +9,4 @@ pub mod Arrival
 pub mod Progress
 pub mod Demand3
 pub mod Night
+pub mod Splits

@@ -3,37 +3,39 @@
 -- with a number or no whole command waits.
 use Prim.Native.Nat.{ℕ, zero, suc, _+_, _-_, _*_, _/_, _%_, _≤_, _<_}
 use mathlib.Core.Path.{_≡_, refl, sym, ap, subst}
-use mathlib.Core.Bool.{Bool, true, false, _&&_}
+use mathlib.Core.Bool.{Bool, true, false, _&&_, _||_}
 use mathlib.Core.Logic.{⊎-elim}
 use mathlib.Core.List.{List}
 use native.Mathlib.Omega.{arith}
 use native.Mathlib.Nat.{mod-lt, mul-le-mul, div-add-mod'}
 use lib.ListN.{replicate}
 use borrow.Author.Tests.{leb-true, leb-false, ltb-false, eqb-true}
-use Rattle.model.specs.Choice.{_<?_, _≤?_, _=?_, if_then_else_, true-or-false, neither, if-both}
+use Rattle.model.specs.Choice.{_<?_, _≤?_, _=?_, if_then_else_, true-or-false, not-both, neither, if-both}
 use Rattle.model.specs.Limits.{ringMost, budgetMost, sideMost, stopLeast, stopMost}
 use Rattle.model.specs.Registers.{width, height, vectorLength}
 use Rattle.model.specs.Bits.{set?}
 use Rattle.model.specs.Ring.{waiting, distance-lt, empty}
-use Rattle.model.specs.Command.{kindOf, commandLength, drawnOf, drawnBy, badReturn, wholeWords, readAfter}
+use Rattle.model.specs.Command.{kindOf, isData, dataLength, commandLength, drawnOf, drawnBy, badReturn, wholeWords, readAfter}
+use Rattle.model.specs.Host.{hostWord, takesData}
 use Rattle.model.specs.BltPixel.{bltOf, rectangleOf}
 use Rattle.model.specs.VectorPixel.{vectorOf}
-use Rattle.model.specs.Unit.{Machine, headerAt, loadedAt, countedAt, lengthAt, returnsAt, commandRefusal, stopped, placeAfter, loadedCore, drawnCore, pixelCount, unit, possible, units}
-use Rattle.model.specs.Steps.{Step, loads, refuses, draws, step-of}
+use Rattle.model.specs.Unit.{Machine, pixelsDrawn, headerAt, loadedAt, countedAt, lengthAt, returnsAt, commandRefusal, stopped, placeAfter, loadedCore, takenCore, drawnCore, fedCore, pixelCount, unit, possible, units}
+use Rattle.model.specs.Steps.{Step, loads, takes, refuses, draws, feeds, step-of}
 use Rattle.model.specs.Course.{Configuration}
 use Rattle.model.specs.Perform.{runs, total, Fixed}
 use Rattle.model.specs.declared.Core.{Core}
 use Rattle.model.specs.declared.State.{State}
 use Rattle.model.specs.declared.Drawn.the-variants.{Nothing, Draws}
+use Rattle.model.specs.declared.Feed.{Feed}
 use Rattle.model.specs.declared.Kind.{Kind}
-use Rattle.model.specs.declared.Kind.the-variants.{Blt, Vector, Table}
+use Rattle.model.specs.declared.Kind.the-variants.{Blt, Vector, Table, Data}
 use Rattle.model.specs.declared.Primitive.{Primitive}
 use Rattle.model.specs.declared.Primitive.the-variants.{Blt as BltPrimitive, Vector as VectorPrimitive}
 use Rattle.model.specs.declared.Place.{Place}
-use Rattle.model.specs.declared.Place.the-variants.{Idle, Drawing}
+use Rattle.model.specs.declared.Place.the-variants.{Idle, Drawing, Wanting, Fed}
 use Rattle.laws.specs.Modular.{distance-sum, distance-next}
 use Rattle.laws.specs.Units.{possible-running, possible-ready, units-each}
-use Rattle.laws.specs.Fit.{Fit, fit-parts, drawing-fit, accepted-header, accepted-return, fit-unit}
+use Rattle.laws.specs.Fit.{Fit, FitFed, fit-parts, drawing-fit, wanting-is, wanting-fit, fed-fit, accepted-header, accepted-return, accepted-wanted, fit-unit}
 use Rattle.laws.specs.WellFormed.{WellFormed, wellformed-units}
 use Rattle.demands.specs.Courses.{configuration, machineIn}
 use Rattle.demands.specs.Runs.{runs-total}
@@ -51,14 +53,17 @@ abbrev pub commandUnits : ℕ
 commandUnits = sideMost * sideMost + 1
 
 -- Each of the 17 words of a BLT is good for its share of them. (A vector has 14 words and far fewer pixels, 4095; a table load has
--- four words or more, and is one unit.)
+-- four words or more, and is one unit; a data command has three words or more, and is one unit besides the pixels of its BLT.)
 abbrev pub wordUnits : ℕ
 wordUnits = shared commandUnits (commandLength Blt 0)
 
--- the pixels that are left of the command that is being drawn
+-- the pixels that are left of the command in progress. A data command costs a unit of its own, its acceptance; its words wait until
+-- it is passed, and pay for it: while it feeds a BLT one pixel fewer counts
 abbrev pub pixelsLeft : List ℕ → Place → ℕ
 pixelsLeft registers Idle = 0
 pixelsLeft registers (Drawing primitive k) = pixelCount primitive registers - k
+pixelsLeft registers (Wanting k) = pixelCount BltPrimitive registers - k
+pixelsLeft registers (Fed k feed) = pixelCount BltPrimitive registers - k - 1
 
 -- the unit that refuses a command, after which there is none
 abbrev pub refusalLeft : ℕ → ℕ
@@ -80,12 +85,13 @@ enoughRuns = replicate (runsFor ringMost) budgetMost
 -- ---- the statement
 
 -- what still waits is less than a command: not all its words, or, with W, not those up to the ring's end. (Fewer than three words
--- of a table load are less than all of them, whatever stands where its count word will be.)
+-- of a table load, or two of a data command, are less than all of them, whatever stands where its count word will be.)
 pub data Part (ring : List ℕ) (c : Core) (write : ℕ) : Type 0 where
   words-missing : waiting (c .ringlength) (c .read) write < lengthAt ring c → Part ring c write
   end-missing : returnsAt ring c ≡ true → waiting (c .ringlength) (c .read) write < c .ringlength - c .read → Part ring c write
 
--- "then the engine has stopped with a number or no whole command waits"
+-- "then the engine has stopped with a number or no whole command waits". A BLT that wants data may be in progress then: it waits for
+-- them
 pub data AtRest (ring : List ℕ) (s : State) : Type 0 where
   has-stopped : stopLeast ≤ s .core .stop → s .core .stop ≤ stopMost → AtRest ring s
   waits : Waits ring s → Part ring (s .core) (s .write) → AtRest ring s
@@ -149,19 +155,26 @@ pixels-most VectorPrimitive registers = field-most (vectorLength registers) (mod
 
 -- a unit for its load and its pixels, over its words
 drawn-share : (header counted : ℕ) (registers : List ℕ)
-    → pixelsLeft registers (placeAfter (drawnBy header)) + 1 ≤ wordUnits * commandLength (kindOf header) counted
+    → pixelsLeft registers (placeAfter (drawnBy header) registers) + 1 ≤ wordUnits * commandLength (kindOf header) counted
 unfolding drawnBy
 drawn-share header counted registers = go (kindOf header)
   where
+    place : (primitive : Primitive) (b : Bool) → takesData primitive registers ≡ b
+        → pixelsLeft registers (if b then Wanting 0 else Drawing primitive 0) ≤ pixelsMost primitive
+    place BltPrimitive true e = omega (arith, pixels-most BltPrimitive registers)
+    place VectorPrimitive true e = absurd (not-both false e refl)
+    place primitive false e = omega (arith, pixels-most primitive registers)
+
     drawn : (primitive : Primitive) (b : Bool)
-        → pixelsLeft registers (placeAfter (if b then Draws primitive else Nothing)) ≤ pixelsMost primitive
-    drawn primitive true = omega (arith, pixels-most primitive registers)
+        → pixelsLeft registers (placeAfter (if b then Draws primitive else Nothing) registers) ≤ pixelsMost primitive
+    drawn primitive true = place primitive (takesData primitive registers) refl
     drawn primitive false = omega arith
 
-    go : (kind : Kind) → pixelsLeft registers (placeAfter (drawnOf kind header)) + 1 ≤ wordUnits * commandLength kind counted
+    go : (kind : Kind) → pixelsLeft registers (placeAfter (drawnOf kind header) registers) + 1 ≤ wordUnits * commandLength kind counted
     go Blt = omega (arith, drawn BltPrimitive (set? header 15))
     go Vector = omega (arith, drawn VectorPrimitive (set? header 12))
     go Table = omega arith
+    go Data = omega arith
 
 -- ---- each unit leaves fewer
 
@@ -172,6 +185,17 @@ module _ (ring : List ℕ) (w : ℕ) (c : Core) (fit : Fit c w) where
       let less = waits-less (c .ringlength) (c .read) w (lengthAt ring c) (returnsAt ring c) (fit .read-in) (fit .write-in)
       (accepted-return ring c a) (whole-waits ring c w .0 e) in
       omega (arith, drawn-share (headerAt ring c) (countedAt ring c) (loadedAt ring c))
+
+  -- a data command that is accepted: its words still wait, and the BLT wants data no longer
+  takes-less : commandRefusal ring c ≡ 0 → isData (kindOf (headerAt ring c)) ≡ true
+      → unitsLeft w (takenCore ring c) < unitsLeft w c
+  unfolding unitsLeft takenCore
+  takes-less a d =
+      let p = wanting-is (c .place) (accepted-wanted ring c a d) in
+      let l = wanting-fit c w fit (pixelsDrawn (c .place)) p .pixel .within in
+      let e : pixelsLeft (c .registers) (c .place) ≡ pixelCount BltPrimitive (c .registers) - pixelsDrawn (c .place) =
+      ap (pixelsLeft (c .registers)) p in
+      omega arith
 
   refuses-less : c .stop ≡ 0 → (commandRefusal ring c ≡ 0 → ⊥) → unitsLeft w (stopped c (commandRefusal ring c)) < unitsLeft w c
   unfolding unitsLeft stopped
@@ -190,6 +214,31 @@ module _ (ring : List ℕ) (w : ℕ) (c : Core) (fit : Fit c w) where
       (pixelCount primitive (c .registers) ≤? k + 1) {a = Idle} {b = Drawing primitive (k + 1)} (omega arith) (omega arith) in
       omega arith
 
+  -- a pixel that a data command feeds; where the read pointer passes that command, its words wait no longer
+  feeds-less : (k : ℕ) (feed : Feed) → c .place ≡ Fed k feed → FitFed c w k feed
+      → unitsLeft w (fedCore c (k + 1) feed) < unitsLeft w c
+  unfolding unitsLeft fedCore
+  feeds-less k feed p f =
+      let e : pixelsLeft (c .registers) (c .place) ≡ pixelCount BltPrimitive (c .registers) - k - 1 =
+      ap (pixelsLeft (c .registers)) p in
+      let less = waits-less (c .ringlength) (c .read) w (dataLength (feed .count)) (feed .returns) (fit .read-in) (fit .write-in)
+      (f .good-return) (f .all-wait) in
+      go (pixelCount BltPrimitive (c .registers) ≤? k + 1) (feed .before + feed .count ≤? hostWord (c .registers) (k + 1))
+      refl e less
+    where
+      passed : ℕ
+      passed = readAfter (c .ringlength) (c .read) (dataLength (feed .count)) (feed .returns)
+
+      go : (last used : Bool) → pixelCount BltPrimitive (c .registers) ≤? k + 1 ≡ last
+          → pixelsLeft (c .registers) (c .place) ≡ pixelCount BltPrimitive (c .registers) - k - 1
+          → waiting (c .ringlength) passed w + dataLength (feed .count) ≤ waiting (c .ringlength) (c .read) w
+          → pixelsLeft (c .registers) (if last then Idle else if last || used then Wanting (k + 1) else Fed (k + 1) feed)
+          + refusalLeft (c .stop) + wordUnits * waiting (c .ringlength) (if last || used then passed else c .read) w
+          < pixelsLeft (c .registers) (c .place) + refusalLeft (c .stop) + wordUnits * waiting (c .ringlength) (c .read) w
+      go true used l e less = omega arith
+      go false true l e less = omega arith
+      go false false l e less = omega (arith, leb-false (pixelCount BltPrimitive (c .registers)) (k + 1) l)
+
 unit-less : (ring : List ℕ) (w : ℕ) (m : Machine) → Fit (m .core) w → possible ring (m .core) w ≡ true
     → unitsLeft w (unit ring m .core) < unitsLeft w (m .core)
 unit-less ring w m fit e = go (step-of ring m)
@@ -198,11 +247,13 @@ unit-less ring w m fit e = go (step-of ring m)
     c = m .core
 
     go : Step ring m → unitsLeft w (unit ring m .core) < unitsLeft w c
-    go (loads p a u) =
+    go (loads p a d u) =
         let good = good-header ring c .0 (accepted-header ring c a) in
         rw u (loads-less ring w c fit a (ready-whole ring c w (possible-ready ring c w p e) good))
+    go (takes p a d u) = rw u (takes-less ring w c fit a d)
     go (refuses p n u) = rw u (refuses-less ring w c fit (possible-running ring c w e) n)
     go (draws primitive k p u) = rw u (draws-less ring w c fit primitive k p (drawing-fit c w fit primitive k p .within))
+    go (feeds k feed p u) = rw u (feeds-less ring w c fit k feed p (fed-fit c w fit k feed p))
 
 -- ---- so they end
 
@@ -236,6 +287,8 @@ units-most w c = omega (arith, pixels (c .place), refusal (c .stop))
     pixels : (q : Place) → pixelsLeft (c .registers) q + 1 ≤ commandUnits
     pixels Idle = omega arith
     pixels (Drawing primitive k) = omega (arith, pixels-most primitive (c .registers), drawn primitive)
+    pixels (Wanting k) = omega (arith, pixels-most BltPrimitive (c .registers))
+    pixels (Fed k feed) = omega (arith, pixels-most BltPrimitive (c .registers))
 
     refusal : (k : ℕ) → refusalLeft k ≤ 1
     refusal zero = omega arith

@@ -9,10 +9,13 @@ use lib.ListN.{length}
 use borrow.Author.Tests.{ltb-true, leb-true, lt-ltb, le-leb, eqb-true}
 use Rattle.model.specs.Choice.{_<?_, _=?_, if_then_else_, not-both, either, or-left, or-right}
 use Rattle.model.specs.Refusals.{Rule, first, First, Exactly, rising, Lowest, rising-positive, exactly, first-lowest}
+use Rattle.model.specs.Ring.{waiting}
 use Rattle.model.specs.Bounds.{byteOutside, outside}
 use Rattle.model.specs.Rectangle.{pixelsOf, plus, minus}
 use Rattle.model.specs.BltPixel.{bltOf, sourceOutside}
 use Rattle.model.specs.VectorPixel.{vectorOf, position}
+use Rattle.model.specs.Command.{dataLength, badReturn, badDataCount, wholeWords}
+use Rattle.model.specs.Host.{hostWord}
 use Rattle.model.specs.Judging.{row27, row28}
 use Rattle.model.specs.Unit.{commandRules, commandRefusal}
 use Rattle.model.specs.Calls.{setupRules, publishRules, runRules, restartRules, roomRules, accepted, refused, answered, setup, publish, restart, askRoom, runRefusal, runUnits, ranAnswer, run, numberOf}
@@ -21,13 +24,14 @@ use Rattle.model.specs.Perform.{answerOf}
 use Rattle.model.specs.declared.Core.{Core}
 use Rattle.model.specs.declared.State.{State}
 use Rattle.model.specs.declared.Answer.{Answer}
+use Rattle.model.specs.declared.Feed.{Feed}
 use Rattle.model.specs.declared.Primitive.{Primitive}
 use Rattle.model.specs.declared.Primitive.the-variants.{Blt, Vector}
 use Rattle.model.specs.declared.Rectangle.{Rectangle}
 use Rattle.model.specs.declared.Source.{Source}
 use Rattle.model.specs.declared.Source.the-variants.{Unselected, Frame, Bits}
 use Rattle.laws.specs.Some.{some-found, some-at}
-use Rattle.laws.specs.Fit.{command-rises}
+use Rattle.laws.specs.Fit.{count-follows, command-rises}
 
 -- ---- the statement
 
@@ -39,8 +43,9 @@ rulesOf ring asking y = roomRules (y .state)
 rulesOf ring restarting y = restartRules (y .state)
 
 -- a number that is "given exactly when" its rule is the first that applies, which is the rule with the lowest number: "Where
--- several apply the lowest wins". Lowest is meant by `order`, since W4 has 29 judged "before 22". Ruled out: an engine that refuses
--- everything; one that looks for 24 before 23; one that looks for 22 before 29.
+-- several apply the lowest wins". Lowest is meant by `order`, since W4 has 29 judged "before 22", and W5 has 30 and 31 judged "before
+-- every other number" but 21, and 32, "then 22". Ruled out: an engine that refuses everything; one that looks for 24 before 23; one
+-- that looks for 22 before 29 or 32; one that looks for 22 before 30.
 pub record Given (rules : List Rule) (number : ℕ) : Type 0 where
   pub exact : Exactly rules number
   pub lowest : (n : ℕ) → First rules n ↔ Lowest rules n
@@ -75,6 +80,14 @@ pub record Table : Type 0 where
   pub call-number : (ring : List ℕ) (call : Call) (y : Configuration)
       → Given (rulesOf ring call y) (numberOf (answerOf ring call y .reply))
   pub command-number : (ring : List ℕ) (c : Core) → Given (commandRules ring c) (commandRefusal ring c)
+  -- 3: of "a count .. that 32 .. would refuse" nothing is left to ask, by what else row 3 asks of a data command that feeds a BLT: its
+  -- words hold the next pixel's, so the count is not 0, and they wait, so it is not above ring size less 3
+  pub row-3-count : (s : State) (k : ℕ) (feed : Feed) → let c = s .core in
+      c .read < c .ringlength → s .write < c .ringlength
+      → feed .before ≤ hostWord (c .registers) k → hostWord (c .registers) k < feed .before + feed .count
+      → badReturn (c .ringlength) (c .read) (dataLength (feed .count)) (feed .returns) ≡ false
+      → wholeWords (c .ringlength) (c .read) (dataLength (feed .count)) (feed .returns) ≤ waiting (c .ringlength) (c .read) (s .write)
+      → badDataCount (c .ringlength) (feed .count) ≡ false
   -- 27: "some byte of some destination pixel lies outside frame memory"
   pub row-27 : (primitive : Primitive) (registers : List ℕ) (framelength : ℕ)
       → (row27 registers primitive framelength ≡ true) ↔ DestinationOutside primitive registers framelength
@@ -166,6 +179,9 @@ table = record {
   setup-number = λ rl fl. given (setupRules rl fl) _ refl (setup-first rl fl);
   call-number = λ ring call y. given (rulesOf ring call y) _ (call-rises ring call y) (call-first ring call y);
   command-number = λ ring c. given (commandRules ring c) _ (command-rises ring c) refl;
+  row-3-count = λ s k feed h l b f g e.
+      count-follows (s .core .ringlength) (s .core .read) (s .write) (hostWord (s .core .registers) k) (feed .before) (feed .count)
+      (feed .returns) h l b f g e;
   row-27 = row27-is;
   row-28 = row28-is;
 }

@@ -1,4 +1,5 @@
--- Waiting, in the words of demand 1: "nothing is being drawn and no whole command waits", and none that 21, 29 or 22 refuses.
+-- Waiting, in the words of demand 1: "nothing is being drawn and no whole command waits", and none that its header or its count word
+-- refuses.
 use Prim.Native.Nat.{ℕ, _-_, _≤_, _<_}
 use mathlib.Core.Path.{_≡_, refl}
 use mathlib.Core.Bool.{Bool, true, false}
@@ -9,40 +10,41 @@ use borrow.Author.Tests.{leb-true, leb-false, lt-leb, ltb-true, ltb-false, eqb-t
 use Rattle.model.specs.Choice.{_<?_, _≤?_, _=?_, if_then_else_, true-or-false, not-both, neither, if-both}
 use Rattle.model.specs.Refusals.{NoRule, positive, exactly}
 use Rattle.model.specs.Ring.{waiting}
-use Rattle.model.specs.Command.{kindOf, badHeader, commandLength, judgedWords, wholeWords}
-use Rattle.model.specs.Unit.{headerAt, countedAt, lengthAt, returnsAt, rulesAt, headerRefusal, refusedWords, needed, ready, drawing, possible}
+use Rattle.model.specs.Command.{kindOf, commandLength, badStart, judgedWords, wholeWords}
+use Rattle.model.specs.Unit.{headerAt, countedAt, lengthAt, returnsAt, rulesAt, headerRefusal, refusedWords, needed, ready, wants, drawing, possible}
 use Rattle.model.specs.Calls.{runWord}
 use Rattle.model.specs.declared.Core.{Core}
 use Rattle.model.specs.declared.State.{State}
 use Rattle.model.specs.declared.Kind.{Kind}
-use Rattle.model.specs.declared.Kind.the-variants.{Blt, Vector, Table}
+use Rattle.model.specs.declared.Kind.the-variants.{Blt, Vector, Table, Data}
 use Rattle.model.specs.declared.RunWord.the-variants.{Stopped, Waiting, Spent}
 
 -- ---- the definitions, of the command at the read pointer
 
 -- "It is whole when all its words wait and, with W, when the words waiting also reach the ring's end." (A table load has three words
--- and its data, so its count word waits then.)
+-- and its data, a data command two and its data, so its count word waits then.)
 pub record Whole (ring : List ℕ) (c : Core) (write : ℕ) : Type 0 where
   pub words-wait : lengthAt ring c ≤ waiting (c .ringlength) (c .read) write
   pub reach-end : returnsAt ring c ≡ true → c .ringlength - c .read ≤ waiting (c .ringlength) (c .read) write
 
--- neither 21 nor 22 applies to its header, nor, of a table load, 29 to its count word
+-- none of 21, 30, 31 and 22 applies to its header, nor, of a table load, 29 to its count word, or, of a data command, 32
 abbrev pub GoodHeader : List ℕ → Core → Type 0
 GoodHeader ring c = NoRule (rulesAt ring c)
 
--- 21 does not apply, and fewer words wait than 29 and 22 are judged on: W4 has 29 "judged as soon as three words wait and before 22,
--- which for this kind waits for them too"
+-- none of 21, 30 and 31 applies, and fewer words wait than the other numbers are judged on: W4 has 29 "judged as soon as three words
+-- wait and before 22, which for this kind waits for them too", W5 has 32 "when the count word waits, then 22, which for this kind
+-- waits for the count word"
 pub record Unjudged (ring : List ℕ) (c : Core) (write : ℕ) : Type 0 where
-  pub no-21 : badHeader (headerAt ring c) ≡ false
+  pub good-start : badStart (wants (c .place)) (headerAt ring c) ≡ false
   pub words-few : waiting (c .ringlength) (c .read) write < judgedWords (kindOf (headerAt ring c))
 
--- no word waits, or the header is good and the command is not whole, or too few words of a table load wait to tell
+-- no word waits, or the header is good and the command is not whole, or too few words of a table load or a data command wait to tell
 pub data NoCommand (ring : List ℕ) (c : Core) (write : ℕ) : Type 0 where
   no-word : waiting (c .ringlength) (c .read) write ≡ 0 → NoCommand ring c write
   not-whole : GoodHeader ring c → (Whole ring c write → ⊥) → NoCommand ring c write
   not-judged : Unjudged ring c write → NoCommand ring c write
 
--- the engine waits
+-- the engine waits. W5: "In demand 1 a BLT that wants data, with no data command accepted, counts as not being drawn."
 pub record Waits (ring : List ℕ) (s : State) : Type 0 where
   pub not-stopped : s .core .stop ≡ 0
   pub nothing-drawn : drawing (s .core .place) ≡ false
@@ -70,6 +72,7 @@ judged-words : (kind : Kind) (counted : ℕ) → (0 < judgedWords kind) × (judg
 judged-words Blt counted = (omega arith, omega arith)
 judged-words Vector counted = (omega arith, omega arith)
 judged-words Table counted = (omega arith, omega arith)
+judged-words Data counted = (omega arith, omega arith)
 
 -- the words that it needs before it is loaded or refused
 pub data Needs (ring : List ℕ) (c : Core) : Type 0 where
@@ -96,8 +99,8 @@ module _ (ring : List ℕ) (c : Core) where
       go true e = all-words (good-header .0 (eqb-true _ _ e)) (rw e) (rw e (own-words _ _ (lengthAt ring c) (returnsAt ring c)))
       go false e = its-header (λ g. eqb-false _ _ e (good-header .1 g)) (rw e)
 
-  -- no fewer than it is judged on, where 21 does not apply
-  pub needs-judged : badHeader (headerAt ring c) ≡ false → judgedWords (kindOf (headerAt ring c)) ≤ needed ring c
+  -- no fewer than it is judged on, where none of 21, 30 and 31 applies
+  pub needs-judged : badStart (wants (c .place)) (headerAt ring c) ≡ false → judgedWords (kindOf (headerAt ring c)) ≤ needed ring c
   needs-judged b = go needs-of
     where
       go : Needs ring c → judgedWords (kindOf (headerAt ring c)) ≤ needed ring c
@@ -108,7 +111,7 @@ module _ (ring : List ℕ) (c : Core) where
   needs-some = go needs-of
     where
       go : Needs ring c → 0 < needed ring c
-      go (its-header g e) = rw e (if-both (λ (n : ℕ). 0 < n) (badHeader (headerAt ring c)) (omega arith) judged-some)
+      go (its-header g e) = rw e (if-both (λ (n : ℕ). 0 < n) (badStart (wants (c .place)) (headerAt ring c)) (omega arith) judged-some)
       go (all-words g e l) = omega (arith, judged-some, judged-within)
 
 module _ (ring : List ℕ) (c : Core) (w : ℕ) where
@@ -139,12 +142,12 @@ module _ (ring : List ℕ) (c : Core) (w : ℕ) where
   not-ready e = go (needs-of ring c) (leb-false _ _ e)
     where
       go : Needs ring c → words < needed ring c → NoCommand ring c w
-      go (its-header h n) l = refused (badHeader (headerAt ring c)) refl (rw n at l)
+      go (its-header h n) l = refused (badStart (wants (c .place)) (headerAt ring c)) refl (rw n at l)
         where
-          refused : (b : Bool) → badHeader (headerAt ring c) ≡ b
+          refused : (b : Bool) → badStart (wants (c .place)) (headerAt ring c) ≡ b
               → words < (if b then 1 else judgedWords (kindOf (headerAt ring c))) → NoCommand ring c w
           refused true b l = no-word (omega arith)
-          refused false b l = not-judged (record { no-21 = b; words-few = l })
+          refused false b l = not-judged (record { good-start = b; words-few = l })
       go (all-words h n m) l = not-whole h (λ x. omega (arith, whole-waits .0 x))
 
   pub none-ready : NoCommand ring c w → ready ring c w ≡ false
@@ -152,7 +155,7 @@ module _ (ring : List ℕ) (c : Core) (w : ℕ) where
   none-ready (no-word e) = lt-leb (needed ring c) words (omega (arith, needs-some ring c))
   none-ready (not-whole g f) =
       ⊎-elim (λ p. absurd (f (ready-whole p g))) (λ p. p) (true-or-false (needed ring c ≤? words))
-  none-ready (not-judged u) = lt-leb (needed ring c) words (omega (arith, u .words-few, needs-judged ring c (u .no-21)))
+  none-ready (not-judged u) = lt-leb (needed ring c) words (omega (arith, u .words-few, needs-judged ring c (u .good-start)))
 
 -- ---- the engine waits
 

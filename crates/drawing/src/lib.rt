@@ -4,9 +4,11 @@ ghost use Prim.Native.Nat.{_+_, _*_, _≤_};
 ghost use lib.ListN.{length};
 ghost use Rattle.model.specs.Limits.{frameMost, sideMost};
 ghost use Rattle.model.specs.Judging.{judge};
+ghost use Rattle.model.specs.Host.{takesData};
 ghost use Rattle.model.specs.Unit.{pixelCount};
 ghost use Rattle.model.specs.declared.Primitive.the-variants.{Blt as BltPrimitive};
 ghost use Rattle.laws.specs.Order.{pixels};
+use model::BLT_MODE;
 use model::CH3_OFFSET;
 use model::DST_OFFSET;
 use model::Primitive;
@@ -23,6 +25,16 @@ pub fn pixel_count(primitive: Primitive, registers: [u32; REGISTERS]) -> usize
     match primitive {
         Primitive::Blt => width * fields::number(size, 11, 0),
         Primitive::Vector => width,
+    }
+}
+
+// Whether it takes its pixels from data commands.
+pub fn takes_data(primitive: Primitive, registers: [u32; REGISTERS]) -> bool
+    ensures { λ r. ⌜ r ≡ takesData primitive registers ⌝ }
+{
+    match primitive {
+        Primitive::Blt => fields::bits(registers[BLT_MODE], 1, 0) == 0b10,
+        Primitive::Vector => false,
     }
 }
 

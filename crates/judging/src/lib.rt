@@ -2,6 +2,11 @@
 ghost use mathlib.Core.Path.{_≡_};
 ghost use Rattle.model.specs.BltPixel.{sourceOutside};
 ghost use Rattle.model.specs.Judging.{refusedFormat, row23, row24Both, channel3Further, row24Channel3, sourceBits, monoBack, row24Source, row24, row25, judge};
+ghost use mathlib.Core.Bool.{_&&_};
+ghost use Rattle.model.specs.Choice.{_=?_};
+ghost use Rattle.model.specs.Registers.{sourceMode};
+ghost use Rattle.model.specs.Host.{straddles};
+ghost use Rattle.laws.specs.Straddling.{straddling};
 ghost use Rattle.model.specs.declared.Primitive.the-variants.{Blt as BltPrimitive, Vector as VectorPrimitive};
 ghost use Rattle.laws.specs.Ranges.{RangedSource};
 ghost use Rattle.laws.specs.Some.{isOutside};
@@ -13,6 +18,7 @@ use model::Format;
 use model::Primitive;
 use model::RASTER_MODE;
 use model::REGISTERS;
+use model::SRC_OFFSET;
 use model::Source;
 use model::WID_HEIGHT;
 
@@ -137,7 +143,58 @@ fn is_mono_back(registers: [u32; REGISTERS]) -> bool
     fields::is_set(blt, 8)
 }
 
-// Of a BLT's source: that, or source transparency or inversion of a colour source.
+// Source transparency or inversion of a colour source.
+fn has_color_bits(registers: [u32; REGISTERS]) -> bool
+    ensures { λ r. ⌜ r ≡ (sourceMode registers =? 0b00 && sourceBits registers) ⌝ }
+{
+    let mode = fields::bits(registers[BLT_MODE], 7, 6);
+    if mode != 0b00 {
+        return false;
+    }
+    has_source_bits(registers)
+}
+
+// Of rows of so many pixels of so many bytes, from starting byte `first`: a pixel has bytes in two words.
+fn is_straddling(depth: usize, first: usize, width: usize) -> bool
+    ensures { λ r. ⌜ r ≡ straddling depth first width ⌝ }
+{
+    if depth == 4 {
+        return first != 0;
+    }
+    if depth == 2 {
+        if first == 3 {
+            return true;
+        }
+        if first == 1 {
+            return 1 < width;
+        }
+        return false;
+    }
+    false
+}
+
+// Some pixel of a colour source from the host would straddle two words.
+fn is_torn(registers: [u32; REGISTERS]) -> bool
+    ensures { λ r. ⌜ r ≡ straddles registers ⌝ }
+{
+    if fields::bits(registers[BLT_MODE], 1, 0) != 0b10 {
+        return false;
+    }
+    let mono = blt::is_mono(registers);
+    if mono {
+        return false;
+    }
+    let size = registers[WID_HEIGHT];
+    let width = fields::number(size, 27, 16);
+    let pixels = width * fields::number(size, 11, 0);
+    if pixels == 0 {
+        return false;
+    }
+    let depth = fields::depth_of(fields::bits(registers[RASTER_MODE], 31, 28));
+    is_straddling(depth, fields::number(registers[SRC_OFFSET], 1, 0), width)
+}
+
+// Of a BLT's source: these, or a mono source that goes back.
 fn bad_source(registers: [u32; REGISTERS]) -> bool
     ensures { λ r. ⌜ r ≡ row24Source registers ⌝ }
 {
@@ -145,11 +202,11 @@ fn bad_source(registers: [u32; REGISTERS]) -> bool
     if back {
         return true;
     }
-    let mode = fields::bits(registers[BLT_MODE], 7, 6);
-    if mode != 0b00 {
-        return false;
+    let bits = has_color_bits(registers);
+    if bits {
+        return true;
     }
-    has_source_bits(registers)
+    is_torn(registers)
 }
 
 // Of a BLT: a source or pattern mode that is not carried, a bad source, a bad channel 3, or one of the bits for both.
@@ -163,7 +220,7 @@ fn bad_blt_modes(registers: [u32; REGISTERS]) -> bool
         return true;
     }
     let select = fields::bits(blt, 1, 0);
-    if 0b01 < select {
+    if select == 0b11 {
         return true;
     }
     let pattern = fields::bits(raster, 9, 8);

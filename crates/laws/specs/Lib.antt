@@ -4,8 +4,11 @@ pub mod Pixels
 pub mod Windows
 pub mod Patterns
 pub mod Some
+pub mod Straddling
 pub mod Units
+pub mod Host
 pub mod Fit
+pub mod HostWords
 pub mod WellFormed
 pub mod Order
 pub mod Ranges
@@ -26,3 +29,4 @@ pub mod Moves
 pub mod Mixes
 pub mod Glyphs
 pub mod Tiles
+pub mod Pictures

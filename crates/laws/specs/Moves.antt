@@ -95,12 +95,12 @@ module _ {first : List ℕ} {from to : ℕ} where
   }
 
   -- one byte more
-  pub laid-next : {e : ℕ} {frame next : List ℕ} → Laid first from to 0 e frame next → to + e < length frame
-      → Laid first from to 0 (e + 1) frame (set next (to + e) (getD first (from + e) 0))
-  laid-next l h = laid-up (omega arith) (omega arith) l (laid-byte refl refl refl (omega (arith, l .same)))
+  pub laid-next : {a e : ℕ} {frame next : List ℕ} → Laid first from to a e frame next → a ≤ e → to + e < length frame
+      → Laid first from to a (e + 1) frame (set next (to + e) (getD first (from + e) 0))
+  laid-next l g h = laid-up g (omega arith) l (laid-byte refl refl refl (omega (arith, l .same)))
 
   -- a pixel stored as it is read
-  laid-pixel : Bytes first → (n : ℕ) {a e p q : ℕ} {frame : List ℕ} → e ≡ a + n → p ≡ from + a → q ≡ to + a
+  pub laid-pixel : Bytes first → (n : ℕ) {a e p q : ℕ} {frame : List ℕ} → e ≡ a + n → p ≡ from + a → q ≡ to + a
       → q + n ≤ length frame → Laid first from to a e frame (storePixel n frame q (readPixel n first p))
   unfolding readPixel storePixel
   laid-pixel bytes zero s r w l = laid-none (omega arith)
@@ -126,7 +126,7 @@ laid-moved from to zero frame p q = rw (← paste-zero frame to (drop from frame
 laid-moved from to (suc n) frame p q =
     let l = length-drop from frame in
     rw (← paste-suc frame to (drop from frame) n 0 (omega arith) (omega arith), getD-drop from frame n 0, ← add-one n)
-    (laid-next (laid-moved from to n frame (omega arith) (omega arith)) (omega arith))
+    (laid-next (laid-moved from to n frame (omega arith) (omega arith)) (omega arith) (omega arith))
 
 -- ---- pixels that are copied one after the other
 
@@ -204,7 +204,7 @@ abbrev pub isFull : Pattern → Bool
 isFull (Solid color) = true
 isFull (Mono p) = not (p .transparent)
 
-full-values : (p : Pattern) → isFull p ≡ true → (r : Rectangle) (i j source : ℕ)
+pub full-values : (p : Pattern) → isFull p ≡ true → (r : Rectangle) (i j source : ℕ)
     → (v : ℕ) × (withPattern p r i j source ≡ Values v source)
 unfolding withPattern
 full-values (Solid color) e r i j source = (_, refl)
@@ -225,7 +225,7 @@ pub drawn-byte : {size : ℕ} {q : Rectangle} {i j n : ℕ} → Span size q i j 
     → pixelByte q (i + m) j ≡ a + placeOf (q .columns .negative) n m * q .depth
 drawn-byte {q = q} {i} {n = n} s low m l = let p = place-at (q .columns .negative) i n m l in rw (p .1) at (place-byte s low _ (p .0))
 
-raster-copy : (m code p s d : ℕ) → code ≡ 0xCC → raster m code p s d ≡ s % 2 ^ m
+pub raster-copy : (m code p s d : ℕ) → code ≡ 0xCC → raster m code p s d ≡ s % 2 ^ m
 raster-copy m code p s d e = rw e (raster-source m p s d)
 
 -- the bytes of a row are few

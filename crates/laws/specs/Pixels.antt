@@ -1,6 +1,7 @@
 -- Pixels of n bytes: facts about depth, once over the byte count.
 use Prim.Native.Nat.{ℕ, zero, suc, _+_, _-_, _*_, _/_, _%_, _^_, _≤_, _<_}
 use mathlib.Core.Path.{_≡_, refl, sym, ap, _∙_}
+use mathlib.Core.Bool.{_||_}
 use mathlib.Core.List.{List, [], _∷_}
 use native.Mathlib.Omega.{arith}
 use native.Mathlib.Nat.{mul-suc, add-suc, mod-lt}
@@ -9,7 +10,9 @@ use lib.Pow.{pow-pos, pow-add}
 use lib.ListN.{length, getD, set, length-set}
 use lib.Seq.{getD-set-same, getD-set-other}
 use Rattle.model.specs.Bits.{low-split}
-use Rattle.model.specs.Formats.{Depth}
+use Rattle.model.specs.Choice.{_=?_, if-both}
+use Rattle.model.specs.Formats.{Depth, formatOf, depthOf}
+use Rattle.model.specs.declared.Format.{Format}
 use Rattle.model.specs.Pixel.{readPixel, storePixel}
 use Rattle.model.specs.Raster.{raster, raster-odd, raster-half}
 
@@ -28,6 +31,14 @@ pub depth-most : {n : ℕ} → Depth n → n ≤ 4
 depth-most Depth.one = omega arith
 depth-most Depth.two = omega arith
 depth-most Depth.four = omega arith
+
+-- of every colour format, 0 of those that are refused
+pub depth-of-most : (code : ℕ) → depthOf (formatOf code) ≤ 4
+unfolding formatOf
+depth-of-most code =
+    let Most : Format → Type 0 = λ x. depthOf x ≤ 4 in
+    if-both Most (code =? 0b0000) (omega arith)
+    (if-both Most (code =? 0b0100 || code =? 0b0101 || code =? 0b0110) (omega arith) (if-both Most (code =? 0b1000) (omega arith) (omega arith)))
 
 -- storing keeps the length, and the bytes below the pixel
 pub length-store : (n : ℕ) (frame : List ℕ) (at value : ℕ) → length (storePixel n frame at value) ≡ length frame

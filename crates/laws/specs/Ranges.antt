@@ -186,11 +186,11 @@ module _ (registers : List ℕ) (no-23 : row23 registers ≡ false) where
         diagonal-falls = t .1;
       }
 
--- what judging accepts
-judged : (primitive : Primitive) (registers : List ℕ) (size : ℕ) → judge primitive registers size ≡ 0
+-- judging accepts a command where none of its rules applies
+pub judged-rows : (primitive : Primitive) (registers : List ℕ) (size : ℕ) → judge primitive registers size ≡ 0
     → NoRule (judgeRules primitive registers size)
 unfolding judge positive
-judged primitive registers size = none-first (judgeRules primitive registers size) refl
+judged-rows primitive registers size = none-first (judgeRules primitive registers size) refl
 
 module _ (registers : List ℕ) (size : ℕ) where
   -- a source that lies in frame memory, once it is in range
@@ -208,7 +208,7 @@ module _ (registers : List ℕ) (size : ℕ) where
   pub fit-blt : judge BltPrimitive registers size ≡ 0 → FitBlt size (bltOf registers)
   unfolding bltOf patternOf
   fit-blt e =
-      let rules = judged BltPrimitive registers size e in
+      let rules = judged-rows BltPrimitive registers size e in
       let later = rules .1 .1 in
       record {
         destination-fit = record { ranged = ranged-destination registers (rules .0) (later .0); inside = later .1 .1 .0 };
@@ -218,6 +218,6 @@ module _ (registers : List ℕ) (size : ℕ) where
 
   pub fit-vector : judge VectorPrimitive registers size ≡ 0 → FitVector size (vectorOf registers)
   fit-vector e =
-      let rules = judged VectorPrimitive registers size e in
+      let rules = judged-rows VectorPrimitive registers size e in
       let later = rules .1 .1 in
       record { ranged = ranged-vector registers (rules .0) (later .0) (later .1 .0); inside = later .1 .1 .0 }

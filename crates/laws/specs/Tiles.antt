@@ -143,7 +143,7 @@ tilePixels tile row column b = inOrder (tilePixel tile row column b)
 index-lt : (n : ℕ) → n % 8 < 8
 index-lt n = mod-lt n (omega arith)
 
-color-in : (table : List ℕ) (r : Rectangle) (row column i j : ℕ) → colorIn (tileOf (r .depth) table) r row column i j ≡ colorAt r row column table i j
+pub color-in : (table : List ℕ) (r : Rectangle) (row column i j : ℕ) → colorIn (tileOf (r .depth) table) r row column i j ≡ colorAt r row column table i j
 unfolding colorAt patternIndex
 color-in table r row column i j =
     let colors : ℕ → ℕ → ℕ = tileColor (r .depth) table in

@@ -7,11 +7,14 @@ use native.Mathlib.Omega.{arith}
 use native.Mathlib.Nat.{zero-add, suc-add}
 use borrow.Author.Tests.{eqb-true, eq-eqb}
 use Rattle.model.specs.Choice.{_=?_, not-both, both}
-use Rattle.model.specs.Unit.{Machine, Done, commandRefusal, stopped, loadedCore, tableAfter, drawnCore, drawPixel, unitAt, unit, drawing, ready, done, possible, units}
-use Rattle.model.specs.Steps.{machine, Step, loads, refuses, draws, step-of}
+use Rattle.model.specs.Command.{kindOf, isData}
+use Rattle.model.specs.Host.{hostWord, drawHost}
+use Rattle.model.specs.Unit.{Machine, Done, headerAt, commandRefusal, stopped, loadedCore, takenCore, acceptedCore, tableAfter, drawnCore, drawPixel, fedWord, fedCore, unitAt, unit, drawing, ready, done, possible, units}
+use Rattle.model.specs.Steps.{machine, Step, loads, takes, refuses, draws, feeds, step-of}
 use Rattle.model.specs.declared.Core.{Core}
+use Rattle.model.specs.declared.Feed.{Feed}
 use Rattle.model.specs.declared.Place.{Place}
-use Rattle.model.specs.declared.Place.the-variants.{Drawing}
+use Rattle.model.specs.declared.Place.the-variants.{Drawing, Fed}
 use Rattle.model.specs.declared.Primitive.{Primitive}
 
 -- ---- what a unit is, by what the engine does
@@ -22,33 +25,44 @@ pub unit-draws : (ring : List ℕ) (m : Machine) (primitive : Primitive) (k : �
 unfolding unit unitAt
 unit-draws ring m primitive k p = ap (λ (q : Place). unitAt ring q m) p
 
+pub unit-feeds : (ring : List ℕ) (m : Machine) (k : ℕ) (feed : Feed) → m .core .place ≡ Fed k feed
+    → unit ring m
+    ≡ machine (fedCore (m .core) (k + 1) feed) (m .table)
+    (drawHost (m .core .registers) (m .table) k (fedWord ring (m .core) feed (hostWord (m .core .registers) k)) (m .frame))
+unfolding unit unitAt
+unit-feeds ring m k feed p = ap (λ (q : Place). unitAt ring q m) p
+
 -- where nothing is being drawn
 module _ (ring : List ℕ) (m : Machine) (idle : drawing (m .core .place) ≡ false) where
-  pub unit-loads : commandRefusal ring (m .core) ≡ 0
-      → unit ring m ≡ machine (loadedCore ring (m .core)) (tableAfter ring (m .core) (m .table)) (m .frame)
-  unit-loads e = go (step-of ring m)
+  pub unit-accepts : commandRefusal ring (m .core) ≡ 0
+      → unit ring m ≡ machine (acceptedCore ring (m .core)) (tableAfter ring (m .core) (m .table)) (m .frame)
+  unit-accepts e = go (step-of ring m)
     where
-      go : Step ring m → unit ring m ≡ machine (loadedCore ring (m .core)) (tableAfter ring (m .core) (m .table)) (m .frame)
-      go (loads p f u) = u
+      go : Step ring m → unit ring m ≡ machine (acceptedCore ring (m .core)) (tableAfter ring (m .core) (m .table)) (m .frame)
+      go (loads p f d u) = rw d u
+      go (takes p f d u) = rw d u
       go (refuses p n u) = absurd (n e)
       go (draws primitive k p u) = absurd (not-both _ (ap drawing p) idle)
+      go (feeds k feed p u) = absurd (not-both _ (ap drawing p) idle)
 
   pub unit-refuses : (commandRefusal ring (m .core) ≡ 0 → ⊥)
       → unit ring m ≡ machine (stopped (m .core) (commandRefusal ring (m .core))) (m .table) (m .frame)
   unit-refuses n = go (step-of ring m)
     where
       go : Step ring m → unit ring m ≡ machine (stopped (m .core) (commandRefusal ring (m .core))) (m .table) (m .frame)
-      go (loads p e u) = absurd (n e)
+      go (loads p e d u) = absurd (n e)
+      go (takes p e d u) = absurd (n e)
       go (refuses p f u) = u
       go (draws primitive k p u) = absurd (not-both _ (ap drawing p) idle)
+      go (feeds k feed p u) = absurd (not-both _ (ap drawing p) idle)
 
 -- ---- whether a unit can be done
 
 module _ (ring : List ℕ) (c : Core) (w : ℕ) where
   -- a pixel can always be drawn
-  pub drawing-possible : (primitive : Primitive) (k : ℕ) → c .stop ≡ 0 → c .place ≡ Drawing primitive k → possible ring c w ≡ true
+  pub drawing-possible : c .stop ≡ 0 → drawing (c .place) ≡ true → possible ring c w ≡ true
   unfolding possible
-  drawing-possible primitive k z p = rw (eq-eqb _ _ z, ap drawing p)
+  drawing-possible z p = rw (eq-eqb _ _ z, p)
 
   -- where nothing is being drawn one can be done where a command is ready
   pub idle-possible : c .stop ≡ 0 → drawing (c .place) ≡ false → possible ring c w ≡ ready ring c w

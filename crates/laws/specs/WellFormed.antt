@@ -8,10 +8,11 @@ use borrow.Author.Tests.{eqb-true, eq-eqb, not-false}
 use Rattle.model.specs.Choice.{_=?_, neither}
 use Rattle.model.specs.Refusals.{positive, exactly, none-first}
 use Rattle.model.specs.Operands.{drawOperands}
-use Rattle.model.specs.BltPixel.{drawAt, drawBlt, drawTiled}
+use Rattle.model.specs.BltPixel.{drawAt, drawFrom, drawBlt, drawTiled}
+use Rattle.model.specs.Host.{drawHost}
 use Rattle.model.specs.VectorPixel.{drawVector}
-use Rattle.model.specs.Unit.{Machine, stopped, loadedCore, drawnCore, drawPixel, unit, possible, units}
-use Rattle.model.specs.Steps.{Step, loads, refuses, draws, step-of}
+use Rattle.model.specs.Unit.{Machine, stopped, loadedCore, takenCore, drawnCore, drawPixel, fedCore, unit, possible, units}
+use Rattle.model.specs.Steps.{Step, loads, takes, refuses, draws, feeds, step-of}
 use Rattle.model.specs.Calls.{runRules, runRefusal, machineOf}
 use Rattle.model.specs.declared.State.{State}
 use Rattle.model.specs.declared.Operands.{Operands}
@@ -60,6 +61,10 @@ unfolding drawPixel drawTiled drawBlt drawAt drawVector
 length-pixel Blt registers table k frame = length-operands _ _ _ _ frame
 length-pixel Vector registers table k frame = length-operands _ _ _ _ frame
 
+pub length-host : (registers table : List ℕ) (k word : ℕ) (frame : List ℕ) → length (drawHost registers table k word frame) ≡ length frame
+unfolding drawHost drawFrom
+length-host registers table k word frame = length-operands _ _ _ _ frame
+
 -- the lengths in the state, and frame memory's own
 pub record Kept (m n : Machine) : Type 0 where
   pub ringlength-kept : n .core .ringlength ≡ m .core .ringlength
@@ -67,15 +72,19 @@ pub record Kept (m n : Machine) : Type 0 where
   pub frame-kept : length (n .frame) ≡ length (m .frame)
 
 pub unit-keeps : (ring : List ℕ) (m : Machine) → Kept m (unit ring m)
-unfolding stopped loadedCore drawnCore
+unfolding stopped loadedCore takenCore drawnCore fedCore
 unit-keeps ring m = go (step-of ring m)
   where
     go : Step ring m → Kept m (unit ring m)
-    go (loads p e u) = rw u (record { ringlength-kept = refl; framelength-kept = refl; frame-kept = refl })
+    go (loads p e d u) = rw u (record { ringlength-kept = refl; framelength-kept = refl; frame-kept = refl })
+    go (takes p e d u) = rw u (record { ringlength-kept = refl; framelength-kept = refl; frame-kept = refl })
     go (refuses p n u) = rw u (record { ringlength-kept = refl; framelength-kept = refl; frame-kept = refl })
     go (draws primitive k p u) =
         rw u
         (record { ringlength-kept = refl; framelength-kept = refl; frame-kept = length-pixel primitive (m .core .registers) (m .table) k (m .frame) })
+    go (feeds k feed p u) =
+        rw u
+        (record { ringlength-kept = refl; framelength-kept = refl; frame-kept = length-host (m .core .registers) (m .table) k _ (m .frame) })
 
 module _ (ring : List ℕ) (w : ℕ) where
   pub wellformed-unit : (m : Machine) → WellFormed ring w m → possible ring (m .core) w ≡ true → WellFormed ring w (unit ring m)

@@ -73,7 +73,7 @@ module _ (registers : List ℕ) where
     transparent = sourceTransparency registers;
   }
 
-  -- "With no source selected the source value is SRC_COLOR_FG."
+  -- "With no source selected the source value is SRC_COLOR_FG." Of a host source nothing is read here
   unfoldable pub sourceOf : Source
   sourceOf =
       if sourceSelect registers =? 0b01
@@ -149,6 +149,12 @@ operandsAt b i j frame = withSource (b .pattern) (b .destination) i j (sourceVal
 unfoldable pub drawAt : Blt → (i j : ℕ) → List ℕ → List ℕ
 drawAt b i j frame =
     drawOperands (b .destination .depth) (b .code) (pixelByte (b .destination) i j) (operandsAt b i j frame) frame
+
+-- the same with a source value that is handed to it
+unfoldable pub drawFrom : Blt → (i j : ℕ) → SourceValue → List ℕ → List ℕ
+drawFrom b i j value frame =
+    drawOperands (b .destination .depth) (b .code) (pixelByte (b .destination) i j)
+    (withSource (b .pattern) (b .destination) i j value) frame
 
 -- a BLT with a solid pattern of this colour in place of its pattern
 abbrev pub withColor : Blt → ℕ → Blt

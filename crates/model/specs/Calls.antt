@@ -1,20 +1,25 @@
 -- The calls: setup, publish, run, restart and asking for room, with the state, frame memory and answer of each (document 01,
 -- Refusal numbers).
-use Prim.Native.Nat.{ℕ}
+use Prim.Native.Nat.{ℕ, _+_}
 use mathlib.Core.Bool.{Bool, not, _&&_, _||_}
-use mathlib.Core.List.{List, [], _∷_}
+use mathlib.Core.List.{List, [], _∷_, _++_}
 use lib.ListN.{length, replicate}
 use Rattle.model.specs.Choice.{_<?_, _≤?_, _=?_, if_then_else_}
 use Rattle.model.specs.Refusals.{Rule, _when_, first, any}
 use Rattle.model.specs.Limits.{ringLeast, ringMost, frameMost, stopLeast, stopMost, tableLength}
 use Rattle.model.specs.Registers.{registerCount}
-use Rattle.model.specs.Ring.{room, positionRules}
+use Rattle.model.specs.Ring.{waiting, room, positionRules}
+use Rattle.model.specs.Command.{dataLength, badReturn, badDataCount, wholeWords}
+use Rattle.model.specs.Host.{fromHost, hostWord, firstOfWord, takesData}
 use Rattle.model.specs.Judging.{judge}
 use Rattle.model.specs.Unit.{Machine, Done, pixelCount, possible, units}
 use Rattle.model.specs.declared.Core.{Core}
 use Rattle.model.specs.declared.State.{State}
+use Rattle.model.specs.declared.Feed.{Feed}
+use Rattle.model.specs.declared.Primitive.{Primitive}
+use Rattle.model.specs.declared.Primitive.the-variants.{Blt}
 use Rattle.model.specs.declared.Place.{Place}
-use Rattle.model.specs.declared.Place.the-variants.{Idle, Drawing}
+use Rattle.model.specs.declared.Place.the-variants.{Idle, Drawing, Wanting, Fed}
 use Rattle.model.specs.declared.RunWord.{RunWord}
 use Rattle.model.specs.declared.RunWord.the-variants.{Stopped, Waiting, Spent}
 use Rattle.model.specs.declared.Reply.{Reply}
@@ -56,13 +61,31 @@ badStop stop = not (stop =? 0) && (stop <? stopLeast || stopMost <? stop)
 
 -- "a stop together with a command in progress, or a command in progress that judging would refuse or whose place isn't one
 -- of its pixels as reached by its own steps"
-abbrev pub placeTests : Core → Place → List Bool
-placeTests c Idle = []
-placeTests c (Drawing primitive k) =
+abbrev pub pixelTests : Core → Primitive → (k : ℕ) → List Bool
+pixelTests c primitive k =
     not (c .stop =? 0)
     ∷ not (judge primitive (c .registers) (c .framelength) =? 0)
     ∷ (pixelCount primitive (c .registers) ≤? k)
     ∷ []
+
+-- W5: "a place that no split of the BLT's words into data commands reaches, a count or W that 32 or 22 would refuse at the read
+-- pointer, and a data command whose words, with W also those up to the ring's end, don't all wait"
+abbrev pub feedTests : Core → (write k : ℕ) → Feed → List Bool
+feedTests c write k feed =
+    (hostWord (c .registers) k <? feed .before)
+    ∷ (feed .before + feed .count ≤? hostWord (c .registers) k)
+    ∷ badDataCount (c .ringlength) (feed .count)
+    ∷ badReturn (c .ringlength) (c .read) (dataLength (feed .count)) (feed .returns)
+    ∷ not (wholeWords (c .ringlength) (c .read) (dataLength (feed .count)) (feed .returns) ≤? waiting (c .ringlength) (c .read) write)
+    ∷ []
+
+-- these of each place. A BLT wants data or is fed exactly where its source is the host, and it wants data, with no data command
+-- accepted, only where the next pixel is the first of its word: every data command ends with the last pixel of its last word
+abbrev pub placeTests : Core → (write : ℕ) → Place → List Bool
+placeTests c write Idle = []
+placeTests c write (Drawing primitive k) = pixelTests c primitive k ++ (takesData primitive (c .registers) ∷ [])
+placeTests c write (Wanting k) = pixelTests c Blt k ++ (not (fromHost (c .registers)) ∷ not (firstOfWord (c .registers) k) ∷ [])
+placeTests c write (Fed k feed) = pixelTests c Blt k ++ (not (fromHost (c .registers)) ∷ feedTests c write k feed)
 
 -- 3: "state unfit: a length outside 1 or 2, a pointer not below ring size", and those. Some of these tests holds for a core
 -- with this write pointer.
@@ -73,7 +96,7 @@ unfitTests c write =
     ∷ (c .ringlength ≤? c .read)
     ∷ (c .ringlength ≤? write)
     ∷ badStop (c .stop)
-    ∷ placeTests c (c .place)
+    ∷ placeTests c write (c .place)
 
 unfoldable pub unfit : State → Bool
 unfit s = any (unfitTests (s .core) (s .write))

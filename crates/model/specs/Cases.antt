@@ -18,13 +18,17 @@ use Rattle.model.specs.Raster.{raster, raster-source, raster-pattern, ra
 use Rattle.model.specs.Pattern.{patternByte, patternBit, patternIndex}
 use Rattle.model.specs.Expansion.{sourceBit, expand}
 use Rattle.model.specs.Operands.{drawOperands}
-use Rattle.model.specs.BltPixel.{rectangleOf, bytesOf, monoSourceOf, sourceOf, patternOf, colorPatternOf, bltOf, sourceValue, monoBit, withPattern, withSource, operandsAt, drawAt, colorAt, bltAt, drawBlt, drawTiled}
+use Rattle.model.specs.BltPixel.{rectangleOf, bytesOf, monoSourceOf, sourceOf, patternOf, colorPatternOf, bltOf, sourceValue, monoBit, withPattern, withSource, operandsAt, drawAt, colorAt, bltAt, drawFrom, drawBlt, drawTiled}
+use Rattle.model.specs.Host.{hostOf, hostByte, hostPixel, hostWord, straddles, hostValue, drawHost}
 use Rattle.model.specs.VectorPixel.{signed16, vectorOf, axialStep, diagonalStep, step, position, vectorExtent, vectorByte, drawVector}
-use Rattle.model.specs.Command.{returns, kindOf, badHeader, commandLength, drawnBy, badReturn, headerRules, wholeWords, readAfter, loadWords, loaded, loadedTable}
+use Rattle.model.specs.Command.{returns, kindOf, badHeader, commandLength, drawnBy, badReturn, badDataWord, headerRules, wholeWords, readAfter, loadWords, loaded, loadedTable}
 use Rattle.model.specs.Judging.{judge}
 use Rattle.model.specs.Completion.{retired}
-use Rattle.model.specs.Unit.{headerRefusal, commandRefusal, needed, ready, stopped, loadedCore, tableAfter, pixelCount, drawPixel, drawnCore, unitAt, unit, possible, units}
+use Rattle.model.specs.Unit.{headerRefusal, commandRefusal, needed, ready, stopped, loadedCore, tableAfter, pixelCount, drawPixel, drawnCore, fedWord, fedCore, takenCore, commandUnit, unitAt, unit, possible, units}
 use Rattle.model.specs.Calls.{numberOf, unitsOf, unfit, freshState, setup, publish, restart, askRoom, runWord, runRefusal, runUnits, ranAnswer, run, runFrame}
+use Rattle.model.specs.CaseSetup.{_but_is_, zeros, ringOf, noTable, engineWith, engineAt, engine, answer, series, placed, tileTable}
+pub use Rattle.model.specs.CaseSetup.{size}
+use Rattle.model.specs.HostCases.{HostSources, HostJudged, DataCommands, DataRefused, HostPlaces}
 use Rattle.model.specs.declared.State.{State}
 use Rattle.model.specs.declared.Answer.{Answer}
 use Rattle.model.specs.declared.Extent.{Extent}
@@ -37,52 +41,6 @@ use Rattle.model.specs.declared.Reply.{Reply}
 use Rattle.model.specs.declared.Reply.the-variants.{Refused, Accepted, Ran}
 
 -- ---- how the cases are set up
-
--- the ring of the cases, the least that W4 leaves: "Number 1 now refuses rings below 1,024; the 64-word cases are restated at
--- 1,024". Late positions are counted from its end: word 50 of 64 is now word 1010, size - 14
-abbrev pub size : ℕ
-size = 1_024
-
--- a list with another value in one place
-infixl 30 _but_is_
-abbrev pub _but_is_ : List ℕ → ℕ → ℕ → List ℕ
-list but place is value = set list place value
-
--- registers that are all 0, and a ring that begins with these words
-abbrev pub zeros : List ℕ
-zeros = replicate registerCount 0
-
-abbrev pub ringOf : List ℕ → List ℕ
-ringOf words = words ++ replicate (size - length words) 0
-
--- a table that is all 0: W4's "512-word table"
-abbrev pub noTable : List ℕ
-noTable = replicate 512 0
-
--- an engine with this table, one whose table is all 0, and one that has neither retired a command nor stopped
-abbrev pub engineWith : (table registers : List ℕ) → (framelength read write completion stop : ℕ) → Place → State
-engineWith table registers framelength read write completion stop place = record {
-  core = record {
-    registers = registers;
-    read = read;
-    ringlength = size;
-    framelength = framelength;
-    completion = completion;
-    stop = stop;
-    place = place;
-  };
-  table = table;
-  write = write;
-}
-
-abbrev pub engineAt : List ℕ → (framelength read write completion stop : ℕ) → Place → State
-engineAt = engineWith noTable
-
-abbrev pub engine : List ℕ → (framelength read write : ℕ) → Place → State
-engine registers framelength read write place = engineAt registers framelength read write 0 0 place
-
-abbrev pub answer : State → Reply → Answer
-answer s reply = record { state = s; reply = reply }
 
 -- a run of at most 9 units, all registers 0 and 16 bytes of frame memory
 abbrev pub ran : List ℕ → (read write : ℕ) → Answer
@@ -100,7 +58,7 @@ abbrev pub whole : (read write header : ℕ) → Bool
 whole read write header = wholeWords size read (commandLength (kindOf header) 0) (returns header) ≤? waiting size read write
 
 abbrev pub headerNumber : (read header : ℕ) → ℕ
-headerNumber read header = first (headerRules size read header 0)
+headerNumber read header = first (headerRules false size read header 0)
 
 -- one row of four pixels of one byte by code F0h, and a copy of one by CCh (BLT_MODE 1h, or 201h with X negative)
 abbrev pub row : List ℕ
@@ -205,10 +163,10 @@ pub record Extremes : Type 0 where
 pub record Judged : Type 0 where
   -- 23: codes 0001 and 0111, alpha
   pub formats-refused : rowWith RASTER-MODE (0x100000F0 ∷ 0x700000F0 ∷ 0x004000F0 ∷ 0x008000F0 ∷ []) ≡ replicate 4 23
-  -- 24: each bit and mode of RASTER_MODE but the colour pattern, SM 11 and each select of BLT_MODE, channel 3, BASE_OFFSET; 25; and
-  -- bits that refuse nothing
+  -- 24: each bit and mode of RASTER_MODE but the colour pattern, SM 11 and SR 11 of BLT_MODE, channel 3, BASE_OFFSET; 25; and bits
+  -- that refuse nothing
   pub modes-refused : rowWith RASTER-MODE (0x20F0 ∷ 0x10F0 ∷ 0x08F0 ∷ 0x03F0 ∷ 0x02F0 ∷ []) ≡ replicate 4 24 ++ (0 ∷ [])
-  pub sources-refused : rowWith BLT-MODE (0x40 ∷ 0x80 ∷ 0xC0 ∷ 0x02 ∷ 0x03 ∷ []) ≡ 0 ∷ 0 ∷ 24 ∷ 24 ∷ 24 ∷ []
+  pub sources-refused : rowWith BLT-MODE (0x40 ∷ 0x80 ∷ 0xC0 ∷ 0x02 ∷ 0x03 ∷ []) ≡ 0 ∷ 0 ∷ 24 ∷ 0 ∷ 24 ∷ []
   pub channel-3-refused : rowWith CH3-MODE-STR (0x80000000 ∷ 0x7FFFFFFF ∷ []) ≡ 24 ∷ 0 ∷ []
   pub base-refused : rowWith BASE-OFFSET (0x00000001 ∷ 0x80000000 ∷ []) ≡ 24 ∷ 24 ∷ []
   pub sizes-refused : rowWith WID-HEIGHT (0xF000F001 ∷ 0xF004F000 ∷ 0xF004F001 ∷ []) ≡ 25 ∷ 25 ∷ 0 ∷ []
@@ -226,14 +184,14 @@ numbers = 1 ∷ 2 ∷ 3 ∷ 4 ∷ 5 ∷ 6 ∷ 7 ∷ 8 ∷ 9 ∷ 10 ∷ 11 ∷ 12
 
 -- headers and words
 pub record Commands : Type 0 where
-  -- kind 11, reserved bits of each kind; S has no effect; W that ends exactly at the ring's end, and at word 0
+  -- reserved bits of each kind; S has no effect; W that ends exactly at the ring's end, and at word 0
   pub headers-refused :
-      map (headerNumber 10) (0x60000000 ∷ 0x00010000 ∷ 0x08000000 ∷ 0x20002000 ∷ 0x28000000 ∷ 0x40000004 ∷ 0x48000000 ∷ [])
-      ≡ replicate 7 21
+      map (headerNumber 10) (0x00010000 ∷ 0x08000000 ∷ 0x20002000 ∷ 0x28000000 ∷ 0x40000004 ∷ 0x48000000 ∷ 0x60000002 ∷ 0x68000000 ∷ [])
+      ≡ replicate 8 21
   pub headers-taken : map (headerNumber 10) (0x1000FFFF ∷ 0x30001FFF ∷ 0x80000000 ∷ 0xA0000000 ∷ []) ≡ replicate 4 0
   pub returns-at-end : map (λ read. headerNumber read 0x80000000) ((size - 17) ∷ (size - 16) ∷ 0 ∷ []) ≡ 0 ∷ 22 ∷ 22 ∷ []
   -- a bad header stops as soon as it waits, a good one waits for its words
-  pub header-alone : ran (ringOf (0x60000000 ∷ [])) 0 1 .reply ≡ Ran Stopped 1 (size - 2)
+  pub header-alone : ran (ringOf (0x60000002 ∷ [])) 0 1 .reply ≡ Ran Stopped 1 (size - 2)
   pub part-waits : ran (ringOf []) 0 16 .reply ≡ Ran Waiting 0 (size - 17)
   -- a command that only loads is one unit, and is retired by it; a vector has 14 words
   pub only-loads :
@@ -276,7 +234,7 @@ pub record Calls : Type 0 where
       publish unfitState 0 ∷ run (ringOf []) unfitState (replicate 16 0) 9 ∷ restart unfitState ∷ askRoom unfitState ∷ []
       ≡ replicate 4 (answer unfitState (Refused 3))
   pub pointers : map unfit (engine zeros 16 (size - 1) (size - 1) Idle ∷ engine zeros 16 0 size Idle ∷ []) ≡ false ∷ true ∷ []
-  pub stops : map (λ n. unfit (engineAt zeros 16 0 0 0 n Idle)) (0 ∷ 20 ∷ 21 ∷ 29 ∷ 30 ∷ []) ≡ false ∷ true ∷ false ∷ false ∷ true ∷ []
+  pub stops : map (λ n. unfit (engineAt zeros 16 0 0 0 n Idle)) (0 ∷ 20 ∷ 21 ∷ 32 ∷ 33 ∷ []) ≡ false ∷ true ∷ false ∷ false ∷ true ∷ []
   pub stop-drawing : unfit (engineAt row 16 0 0 0 27 (Drawing Blt 0)) ≡ true
   pub places : map (λ k. unfit (engine row 16 0 0 (Drawing Blt k))) (0 ∷ 3 ∷ 4 ∷ []) ≡ false ∷ false ∷ true ∷ []
   pub judged-place : unfit (engine zeros 16 0 0 (Drawing Vector 0)) ≡ true
@@ -476,16 +434,7 @@ pub record MonoSources : Type 0 where
   -- and so row 3 refuses such a BLT in progress
   pub bits-in-progress : map (λ offset. unfit (engine (bitsRow offset 0x41) 32 0 0 (Drawing Blt 17))) (26 ∷ 27 ∷ []) ≡ false ∷ true ∷ []
 
--- n numbers from `first` on, `step` apart
-abbrev pub series : (first step n : ℕ) → List ℕ
-series first step zero = []
-series first step (suc n) = first ∷ series (first + step) step n
-
 -- a run of a ring that has these words from word `read` on, past its end from word 0, with n words waiting
-abbrev pub placed : (at : ℕ) → List ℕ → List ℕ → List ℕ
-placed at [] ring = ring
-placed at (w ∷ words) ring = placed (at + 1) words (ring but at % size is w)
-
 abbrev pub given : (read n : ℕ) → List ℕ → Answer
 given read n words = ran (placed read words (ringOf [])) read ((read + n) % size)
 
@@ -533,10 +482,6 @@ counted header n counts = map (λ c. outcome (given 0 n (header ∷ 0 ∷ c ∷ 
 -- of a load of one word with W at ring word `read`
 abbrev pub returning : (read n : ℕ) → ℕ × ℕ × ℕ
 returning read n = outcome (given read n (0xC0000003 ∷ 0 ∷ 0x60000001 ∷ []))
-
--- a table with a tile in which byte number n is n: word 100h is 03020100h, word 13Fh is FFFEFDFCh
-abbrev pub tileTable : List ℕ
-tileTable = replicate 256 0 ++ series 0x03020100 0x04040404 64 ++ replicate 192 0
 
 -- table loads (W4)
 pub record TableLoads : Type 0 where
@@ -756,6 +701,11 @@ pub record Further : Type 0 where
   pub table-loads : TableLoads
   pub color-patterns : ColorPatterns
   pub vectors : Vectors
+  pub host-sources : HostSources
+  pub host-judged : HostJudged
+  pub data-commands : DataCommands
+  pub data-refused : DataRefused
+  pub host-places : HostPlaces
 
 -- ---- a recording
 
@@ -792,7 +742,7 @@ pub record Recorded : Type 0 where
 -- ---- all of it
 
 pub cases : Cases × Further × Recorded
-unfolding first any patternBit patternByte patternIndex distance waiting room wordAt badCount nextIndex indexAfter dataStored tileByte tileValue tileColor readPixel storePixel raster formatOf byteOutside some outside least greatest extent pixelByte rectangleOf bytesOf monoSourceOf sourceOf patternOf colorPatternOf bltOf sourceBit expand sourceValue monoBit withPattern withSource operandsAt drawOperands drawAt colorAt bltAt drawBlt drawTiled signed16 vectorOf axialStep diagonalStep step position vectorByte drawVector kindOf badHeader drawnBy badReturn wholeWords readAfter loadWords loaded loadedTable judge retired headerRefusal commandRefusal needed ready stopped loadedCore tableAfter pixelCount drawPixel drawnCore unitAt unit possible units unfit setup publish restart askRoom runWord runRefusal runUnits ranAnswer run runFrame
+unfolding first any patternBit patternByte patternIndex distance waiting room wordAt badCount nextIndex indexAfter dataStored tileByte tileValue tileColor readPixel storePixel raster formatOf byteOutside some outside least greatest extent pixelByte rectangleOf bytesOf monoSourceOf sourceOf patternOf colorPatternOf bltOf sourceBit expand sourceValue monoBit withPattern withSource operandsAt drawOperands drawAt colorAt bltAt drawBlt drawTiled signed16 vectorOf axialStep diagonalStep step position vectorByte drawVector kindOf badHeader drawnBy badReturn wholeWords readAfter loadWords loaded loadedTable judge hostOf hostByte hostPixel hostWord straddles hostValue drawFrom drawHost badDataWord retired headerRefusal commandRefusal needed ready stopped loadedCore tableAfter pixelCount drawPixel drawnCore fedWord fedCore takenCore commandUnit unitAt unit possible units unfit setup publish restart askRoom runWord runRefusal runUnits ranAnswer run runFrame
 cases = (
   record {
     code-5A = λ s. raster-pattern-xor 8 0xFF s 0xF0;
@@ -827,6 +777,11 @@ cases = (
     table-loads = record { three-words = refl; index-skipped = refl; index-returns = refl; goes-on = refl; index-back = refl; all-words = refl; counts-wait = refl; counts-refused = refl; counts-taken = refl; header-first = refl; returns-wait = refl; returns-refused = refl; other-kinds = refl; load-returns = refl; across-end = refl; refused-load = refl; table-kept = refl };
     color-patterns = record { corners-8 = refl; corners-16 = refl; corners-32 = refl; tile-right-down = refl; tile-left-down = refl; tile-right-up = refl; tile-left-up = refl; tile-16 = refl; channel-3-tile = refl; channel-3-bits = refl; channel-3-left-up = refl; channel-3-off = refl; with-source = refl; by-source = refl; tile-units = refl; load-and-draw = refl; channel-3-taken = refl; channel-3-modes = refl; channel-3-formats = refl; pattern-modes = refl; channel-3-vectors = refl; tile-in-progress = refl };
     vectors = record { zero-error = refl; other-axis = refl; vector-words = refl; vector-frame = refl };
+    host-sources = record { splits-8 = refl; splits-16 = refl; splits-32 = refl; starts-8 = refl; starts-16 = refl; starts-32 = refl; row-ends = refl; table-6-23 = refl; table-6-24 = refl; transparent-units = refl; packed-starts = refl; unpacked-starts = refl; last-bit = refl; wide-pixels = refl; directions = refl; mono-directions = refl; left-16 = refl; mono-pattern = refl; color-pattern = refl };
+    host-judged = record { straddling-32 = refl; straddling-16 = refl; straddling-8 = refl; no-pixel = refl; before-27 = refl; mono-taken = refl; selects = refl; host-directions = refl; host-bits = refl };
+    data-commands = record { from-the-load = refl; wants-none = refl; each-unit = refl; headers-taken = refl; wraps = refl; words-wait = refl; not-read-again = refl; returns-waits = refl; returns-units = refl; returns-frame = refl; across-end = refl; left-over = refl; left-over-returns = refl; waiting-said = refl; restart-refused = refl };
+    data-refused = record { others-refused = refl; whole-others = refl; data-first = refl; data-first-counts = refl; data-after = refl; headers-first = refl; counts-wait = refl; counts-refused = refl; count-most = refl; count-larger = refl; returns-wait = refl; returns-refused = refl; abandoned = refl; abandoned-seen = refl; restarted = refl };
+    host-places = record { wanting = refl; wanting-mono = refl; fed-before = refl; fed-after = refl; fed-none = refl; fed-last = refl; fed-count = refl; fed-return = refl; fed-waiting = refl; fed-calls = refl; selected = refl; vector-drawn = refl; host-stopped = refl; host-judged = refl };
   },
   record { shop-setup = refl; shop-publish = refl; shop-run = refl; shop-read = refl; shop-write = refl; shop-retired = refl; shop-frame = refl; shop-budgets = refl; shop-load = refl },
 )

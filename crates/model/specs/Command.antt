@@ -1,5 +1,5 @@
 -- Commands in the ring: header, kind, length, what is drawn, wholeness, and the loading of the enabled words (document 01, The ring,
--- and document 02, W4; 000, Tables 6-8, 6-9, 6-10 and 6-12).
+-- and document 02, W4 and W5; 000, Tables 6-8 to 6-12).
 use Prim.Native.Nat.{ℕ, _+_, _-_, _%_}
 use mathlib.Core.Bool.{Bool, true, false, not, _&&_, _||_}
 use mathlib.Core.List.{List, [], _∷_}
@@ -9,11 +9,11 @@ use Rattle.model.specs.Refusals.{Rule, _when_}
 use Rattle.model.specs.Bits.{set?, field}
 use Rattle.model.specs.Registers.{RASTER-MODE, DST-OFFSET, SRC-OFFSET, STRIDE, WID-HEIGHT, SRC-COLOR-FG, SRC-COLOR-BG, PAT-COLOR-0, PAT-COLOR-1, PAT-DATA-0, PAT-DATA-1, CH3-OFFSET, CH3-MODE-STR, CH3-WIDHI, BASE-OFFSET, BLT-MODE, VECTOR-MODE, LUT-INDEX, VEC-ERR, VEC-LEN, word}
 use Rattle.model.specs.Ring.{wordAt}
-use Rattle.model.specs.Lookup.{dataCount, badCount, indexAfter, dataStored}
+use Rattle.model.specs.Lookup.{dataType, dataCount, badCount, indexAfter, dataStored}
 use Rattle.model.specs.declared.Drawn.{Drawn}
 use Rattle.model.specs.declared.Drawn.the-variants.{Nothing, Draws}
 use Rattle.model.specs.declared.Kind.{Kind}
-use Rattle.model.specs.declared.Kind.the-variants.{Blt, Vector, Table}
+use Rattle.model.specs.declared.Kind.the-variants.{Blt, Vector, Table, Data}
 use Rattle.model.specs.declared.Primitive.{Primitive}
 use Rattle.model.specs.declared.Primitive.the-variants.{Blt as BltPrimitive, Vector as VectorPrimitive}
 
@@ -23,23 +23,34 @@ use Rattle.model.specs.declared.Primitive.the-variants.{Blt as BltPrimit
 abbrev pub returns : ℕ → Bool
 returns header = set? header 31
 
--- "bits 30:29 kind (00 BLT, 01 vector)", 10 a table load (000, Table 6-10); of kind 11, which 21 refuses, nothing asks
+-- "bits 30:29 kind (00 BLT, 01 vector)", 10 a table load (000, Table 6-10), 11 a data command (Table 6-11)
 unfoldable pub kindOf : ℕ → Kind
-kindOf header = if field header 30 29 =? 0b00 then Blt else if field header 30 29 =? 0b01 then Vector else Table
+kindOf header =
+    if field header 30 29 =? 0b00 then Blt
+    else if field header 30 29 =? 0b01 then Vector
+    else if field header 30 29 =? 0b10 then Table
+    else Data
 
--- 21: "header kind 10 or 11, or a header bit set that must be zero", where W4 has "21 stops covering kind 10". W, kind, S (bit 28)
--- and the write enables, 15:0 of a BLT, 12:0 of a vector and 1:0 of a table load, may be set: "all other header bits are zero"
+-- 21: "header kind 10 or 11, or a header bit set that must be zero", where W4 has "21 stops covering kind 10" and W5 "21 stops
+-- covering kind 11". W, kind, S (bit 28) and the write enables, 15:0 of a BLT, 12:0 of a vector and 1:0 of a table load, may be
+-- set, and bit 0 of a data command, which has no effect there: "all other header bits are zero"
 unfoldable pub badHeader : ℕ → Bool
 badHeader header =
     if field header 30 29 =? 0b00 then not (field header 27 16 =? 0)
     else if field header 30 29 =? 0b01 then not (field header 27 13 =? 0)
     else if field header 30 29 =? 0b10 then not (field header 27 2 =? 0)
-    else true
+    else not (field header 27 1 =? 0)
+
+abbrev pub isData : Kind → Bool
+isData Blt = false
+isData Vector = false
+isData Table = false
+isData Data = true
 
 -- ---- layout
 
 -- the registers of the words after the header, in order. Of a table load's words the first is one: "Header bit 0 enables the
--- index". Then come its count word, which bit 1 leaves as it is, and the data
+-- index". Then come its count word, which bit 1 leaves as it is, and the data. A data command has no word for a register
 abbrev pub wordRegisters : Kind → List ℕ
 wordRegisters Blt =
     RASTER-MODE ∷ DST-OFFSET ∷ SRC-OFFSET ∷ STRIDE ∷ WID-HEIGHT ∷ SRC-COLOR-FG ∷ SRC-COLOR-BG ∷ PAT-COLOR-0 ∷ PAT-COLOR-1
@@ -48,17 +59,29 @@ wordRegisters Vector =
     RASTER-MODE ∷ DST-OFFSET ∷ VEC-ERR ∷ STRIDE ∷ VEC-LEN ∷ SRC-COLOR-FG ∷ PAT-COLOR-0 ∷ PAT-COLOR-1 ∷ PAT-DATA-0
     ∷ PAT-DATA-1 ∷ CH3-MODE-STR ∷ BASE-OFFSET ∷ VECTOR-MODE ∷ []
 wordRegisters Table = LUT-INDEX ∷ []
+wordRegisters Data = []
 
--- the word that a table load has its count in, of the command at `read`
-abbrev pub countWord : List ℕ → ℕ → ℕ
-countWord ring read = wordAt ring read 2
+-- the place of the count word, which a table load and a data command have. The others are judged by the header alone
+abbrev pub countPlace : Kind → ℕ
+countPlace Blt = 0
+countPlace Vector = 0
+countPlace Table = 2
+countPlace Data = 1
 
--- "BLT, 17 words", "Vector, 14 words": the header and those; a table load is header, index, count word and data. `counted` is its
--- count word, which no other kind has
+-- that word, of the command at `read`
+abbrev pub countWord : Kind → List ℕ → ℕ → ℕ
+countWord kind ring read = wordAt ring read (countPlace kind)
+
+-- "BLT, 17 words", "Vector, 14 words": the header and those; a table load is header, index, count word and data, a data command
+-- header, count word and data
+abbrev pub dataLength : (count : ℕ) → ℕ
+dataLength count = 2 + count
+
 abbrev pub commandLength : Kind → (counted : ℕ) → ℕ
 commandLength Blt counted = 1 + length (wordRegisters Blt)
 commandLength Vector counted = 1 + length (wordRegisters Vector)
 commandLength Table counted = 3 + dataCount counted
+commandLength Data counted = dataLength (dataCount counted)
 
 -- ---- what it draws
 
@@ -67,6 +90,7 @@ abbrev pub drawnOf : Kind → ℕ → Drawn
 drawnOf Blt header = if set? header 15 then Draws BltPrimitive else Nothing
 drawnOf Vector header = if set? header 12 then Draws VectorPrimitive else Nothing
 drawnOf Table header = Nothing
+drawnOf Data header = Nothing
 
 unfoldable pub drawnBy : ℕ → Drawn
 drawnBy header = drawnOf (kindOf header) header
@@ -77,26 +101,56 @@ drawnBy header = drawnOf (kindOf header) header
 unfoldable pub badReturn : (size read length : ℕ) → Bool → Bool
 badReturn size read length w = w && (read =? 0 || size <? read + length)
 
+-- 30: "any other command while a BLT still wants data", 31: "data that nobody wants"
+abbrev pub unwanted : (wants : Bool) → Kind → Bool
+unwanted wants kind = wants && not (isData kind)
+
+abbrev pub unasked : (wants : Bool) → Kind → Bool
+unasked wants kind = not wants && isData kind
+
 -- 29, of a table load
 abbrev pub badTable : Kind → (counted : ℕ) → Bool
 badTable Blt counted = false
 badTable Vector counted = false
 badTable Table counted = badCount counted
+badTable Data counted = false
 
--- the rules that the header decides, of a table load with its count word, in the order of judging: 29 stands "before 22"
-abbrev pub headerRules : (size read header counted : ℕ) → List Rule
-headerRules size read header counted =
+-- 32: "a count of 0, a count above ring size less 3, a reserved bit or another DTYPE" than 000
+abbrev pub badDataCount : (size count : ℕ) → Bool
+badDataCount size count = count =? 0 || size - 3 <? count
+
+unfoldable pub badDataWord : (size counted : ℕ) → Bool
+badDataWord size counted =
+    not (dataType counted =? 0b000) || not (field counted 28 16 =? 0) || badDataCount size (dataCount counted)
+
+abbrev pub badData : (size : ℕ) → Kind → (counted : ℕ) → Bool
+badData size Blt counted = false
+badData size Vector counted = false
+badData size Table counted = false
+badData size Data counted = badDataWord size counted
+
+-- the rules that the header decides, of a table load or a data command with its count word, in the order of judging. W5: "21, 30 and
+-- 31 when the header waits, these before every other number, 32 when the count word waits, then 22"; W4 has 29 "before 22".
+-- `wants` says whether a BLT wants data
+abbrev pub headerRules : (wants : Bool) → (size read header counted : ℕ) → List Rule
+headerRules wants size read header counted =
     21 when badHeader header
+    ∷ 30 when unwanted wants (kindOf header)
+    ∷ 31 when unasked wants (kindOf header)
     ∷ 29 when badTable (kindOf header) counted
+    ∷ 32 when badData size (kindOf header) counted
     ∷ 22 when badReturn size read (commandLength (kindOf header) counted) (returns header)
     ∷ []
 
+-- by its header alone it is refused with the first three
+abbrev pub badStart : (wants : Bool) → (header : ℕ) → Bool
+badStart wants header = badHeader header || unwanted wants (kindOf header) || unasked wants (kindOf header)
+
 -- "21 and 22 are judged as soon as the header waits"; 29 "as soon as three words wait and before 22, which for this kind waits for
--- them too": the words that must wait before 29 and 22 are judged
+-- them too"; 32 "when the count word waits, then 22, which for this kind waits for the count word": the words that must wait
+-- before 29, 32 and 22 are judged
 abbrev pub judgedWords : Kind → ℕ
-judgedWords Blt = 1
-judgedWords Vector = 1
-judgedWords Table = 3
+judgedWords kind = 1 + countPlace kind
 
 -- "It is whole when all its words wait and, with W, when the words waiting also reach the ring's end": so many must wait
 unfoldable pub wholeWords : (size read length : ℕ) → Bool → ℕ
@@ -125,16 +179,19 @@ abbrev pub advanced : Kind → (counted : ℕ) → List ℕ → List ℕ
 advanced Blt counted registers = registers
 advanced Vector counted registers = registers
 advanced Table counted registers = set registers LUT-INDEX (indexAfter (dataCount counted) (word registers LUT-INDEX))
+advanced Data counted registers = registers
 
 -- the registers as they would be after loading the command at `read`
 unfoldable pub loaded : List ℕ → ℕ → ℕ → List ℕ → List ℕ
-loaded ring read header registers = advanced (kindOf header) (countWord ring read) (enabled ring read header registers)
+loaded ring read header registers =
+    advanced (kindOf header) (countWord (kindOf header) ring read) (enabled ring read header registers)
 
 -- and the table: the data, from word 3 of a table load on, go into it from the index on
 abbrev pub filled : Kind → List ℕ → ℕ → (index : ℕ) → List ℕ → List ℕ
 filled Blt ring read index table = table
 filled Vector ring read index table = table
-filled Table ring read index table = dataStored ring read 3 (dataCount (countWord ring read)) index table
+filled Table ring read index table = dataStored ring read 3 (dataCount (countWord Table ring read)) index table
+filled Data ring read index table = table
 
 unfoldable pub loadedTable : List ℕ → ℕ → ℕ → List ℕ → List ℕ → List ℕ
 loadedTable ring read header registers table =

@@ -10,6 +10,7 @@ use Rattle.model.specs.Registers.{word, BASE-OFFSET, formatCode, alphaEn
 use Rattle.model.specs.Formats.{formatOf}
 use Rattle.model.specs.Rectangle.{rectangleOutside}
 use Rattle.model.specs.BltPixel.{monoMode, bltOf, sourceOutside}
+use Rattle.model.specs.Host.{straddles}
 use Rattle.model.specs.VectorPixel.{vectorOf, vectorOutside}
 use Rattle.model.specs.declared.Format.{Format}
 use Rattle.model.specs.declared.Format.the-variants.{Bytes, Refused}
@@ -53,16 +54,16 @@ module _ (registers : List ℕ) where
       sourceSelect registers =? 0b01
       && (monoMode registers && xNegative registers || sourceMode registers =? 0b10 && yNegative registers)
 
-  -- 24, of a BLT's source
+  -- 24, of a BLT's source; W5 takes a host source "unless a pixel would straddle two words"
   abbrev pub row24Source : Bool
-  row24Source = monoBack || sourceMode registers =? 0b00 && sourceBits
+  row24Source = monoBack || sourceMode registers =? 0b00 && sourceBits || straddles registers
 
   -- 24: "a source or pattern mode field with a code not carried (used by the pixels or not; BLT_MODE is judged for a BLT
   -- only)", "a vector with a pattern that isn't solid, channel 3 enabled"
   abbrev pub row24 : Primitive → Bool
   row24 Blt =
       sourceMode registers =? 0b11
-      || not (sourceSelect registers =? 0b00 || sourceSelect registers =? 0b01)
+      || sourceSelect registers =? 0b11
       || patternMode registers =? 0b11
       || row24Source
       || row24Channel3

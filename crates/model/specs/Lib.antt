@@ -15,6 +15,7 @@ pub mod Rectangle
 pub mod Expansion
 pub mod Operands
 pub mod BltPixel
+pub mod Host
 pub mod VectorPixel
 pub mod Command
 pub mod Judging
@@ -23,4 +24,6 @@ pub mod Calls
 pub mod Course
 pub mod Perform
 pub mod Steps
+pub mod CaseSetup
+pub mod HostCases
 pub mod Cases

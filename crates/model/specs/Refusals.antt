@@ -45,9 +45,15 @@ pub record Exactly (rules : List Rule) (number : ℕ) : Type 0 where
 
 -- ---- "Where several apply the lowest wins"
 
--- the order of the numbers, in which W4 has 29 judged after 21 and "before 22"
+-- the order of the numbers: between 21 and 22 W5 has first 30 and 31 judged, "before every other number", and then 32, in whose
+-- place W4 has 29, "before 22"
 abbrev pub order : ℕ → ℕ
-order n = if n =? 29 then 2 * 21 + 1 else 2 * n
+order n =
+    if n =? 30 then 5 * 21 + 1
+    else if n =? 31 then 5 * 21 + 2
+    else if n =? 29 then 5 * 21 + 3
+    else if n =? 32 then 5 * 21 + 4
+    else 5 * n
 
 -- the numbers rise in that order: the first above `least`, each above the one before
 unfoldable pub rising : ℕ → List Rule → Bool

@@ -10,7 +10,7 @@ pub const FRAME_MOST: usize = 16777216;
 
 pub const STOP_LEAST: u32 = 21;
 
-pub const STOP_MOST: u32 = 29;
+pub const STOP_MOST: u32 = 32;
 
 pub const TABLE: usize = 512;
 
@@ -70,6 +70,7 @@ pub enum Kind {
     Blt,
     Vector,
     Table,
+    Data,
 }
 
 // What can be drawn.
@@ -86,11 +87,20 @@ pub enum Drawn {
 
 // ---- the engine state
 
-// The place in a command that is being drawn: none, or what is drawn and how many of its pixels are drawn already.
-// Everything else of the place follows from the registers.
+// A data command that is accepted and not passed yet: how many of the BLT's data words came before it, its count and its W.
+pub struct Feed {
+    pub before: u32,
+    pub count: u32,
+    pub returns: bool,
+}
+
+// The place in a command in progress: none, or what is drawn and how many of its pixels are drawn already; of a BLT with host
+// source, that it wants a data command, or the one that feeds it. Everything else of the place follows from the registers.
 pub enum Place {
     Idle,
     Drawing(Primitive, usize),
+    Wanting(usize),
+    Fed(usize, Feed),
 }
 
 // The engine state without the write pointer. One unit of work looks at this, and never at the write pointer.
@@ -176,11 +186,21 @@ pub struct MonoSource {
     pub transparent: bool,
 }
 
-// Where a BLT's source values come from: none is selected and all are one colour; a rectangle of frame memory; bits there.
+// Where a BLT's source values come from: none is selected and all are one colour; a rectangle of frame memory; bits there. A
+// host source stands for none here: its values stand in the ring, and each is handed to its pixel.
 pub enum Source {
     Unselected(u32),
     Frame(Rectangle),
     Bits(MonoSource),
+}
+
+// How the pixels of a host source lie in the bytes of the BLT's data words: the first byte of the first row, the bytes from one
+// row to the next, how many bits of a row's first byte are skipped, and bits a pixel.
+pub struct Host {
+    pub first: usize,
+    pub stride: usize,
+    pub skip: usize,
+    pub bits: usize,
 }
 
 // What a source gives a pixel: nothing is written there, or a value.

@@ -6,7 +6,7 @@ ghost use Rattle.model.specs.Choice.{if_then_else_};
 ghost use Rattle.model.specs.Formats.{Depth};
 ghost use Rattle.model.specs.Operands.{drawOperands};
 ghost use Rattle.model.specs.Expansion.{byteColumn, expand as expandBit};
-ghost use Rattle.model.specs.BltPixel.{sourceValue, monoBit, withPattern, operandsAt};
+ghost use Rattle.model.specs.BltPixel.{sourceValue, monoBit, withPattern, withSource, operandsAt};
 ghost use Rattle.model.specs.declared.Pattern.the-variants.{Mono};
 ghost use Rattle.laws.specs.Ranges.{FitPattern};
 ghost use Rattle.laws.specs.Rows.{bitAt, SourceWithin, PixelOf};
@@ -32,7 +32,7 @@ fn set_bit(inversion: bool) -> u32
 }
 
 // What a mono source makes of a bit.
-fn expand(m: MonoSource, bit: u32) -> SourceValue
+pub fn expand(m: MonoSource, bit: u32) -> SourceValue
     ensures { λ v. ⌜ v ≡ expandBit m bit ⌝ }
 {
     let set = set_bit(m.inversion);
@@ -126,7 +126,18 @@ fn with_pattern(p: Pattern, d: Rectangle, i: usize, j: usize, source: u32) -> Op
 
 // ---- pixels
 
-// What the pixel at column i of row j gets.
+// What the pixel at column i of row j gets, given what its source gives.
+pub fn with_source(p: Pattern, d: Rectangle, i: usize, j: usize, value: SourceValue) -> Operands
+    requires { ⌜ (FitPattern p) × (i < 2 ^ 32) × (j < 2 ^ 32) ⌝ }
+    ensures { λ o. ⌜ o ≡ withSource p d i j value ⌝ }
+{
+    match value {
+        SourceValue::Transparent => Operands::Nothing,
+        SourceValue::Value(source) => with_pattern(p, d, i, j, source),
+    }
+}
+
+// The same with a source in frame memory, or none.
 pub fn at(f: &[u8], b: Blt, i: usize, j: usize) -> Operands
     requires { ⌜ PixelOf (length (now f)) b i j ⌝ }
     ensures { λ o. ⌜ o ≡ operandsAt b i j (now (f .entry)) ⌝ }
@@ -135,10 +146,7 @@ pub fn at(f: &[u8], b: Blt, i: usize, j: usize) -> Operands
     let p = b.pattern;
     let d = b.destination;
     let value = source_value(f, s, i, j);
-    match value {
-        SourceValue::Transparent => Operands::Nothing,
-        SourceValue::Value(source) => with_pattern(p, d, i, j, source),
-    }
+    with_source(p, d, i, j, value)
 }
 
 // Draws what a pixel gets, at its first byte.

@@ -12,9 +12,10 @@ use Rattle.model.specs.Completion.{retired}
 use Rattle.model.specs.Rectangle.{pixelByte}
 use Rattle.model.specs.Operands.{drawOperands}
 use Rattle.model.specs.BltPixel.{rectangleOf, sourceOf, patternOf, colorPatternOf, bltOf, sourceValue, withPattern, withSource, operandsAt, drawAt, bltAt, drawBlt, drawTiled}
+use Rattle.model.specs.Host.{straddles}
 use Rattle.model.specs.Command.{kindOf, badHeader, drawnBy, badReturn, wholeWords, readAfter, loadWords, loaded}
 use Rattle.model.specs.Judging.{judge}
-use Rattle.model.specs.Unit.{headerRefusal, commandRefusal, needed, ready, stopped, loadedCore, pixelCount, drawPixel, drawnCore, unitAt, unit, possible, units}
+use Rattle.model.specs.Unit.{headerRefusal, commandRefusal, needed, ready, stopped, loadedCore, pixelCount, drawPixel, drawnCore, commandUnit, unitAt, unit, possible, units}
 use Rattle.model.specs.Calls.{unfit, runWord, runRefusal, runUnits, ranAnswer, run, runFrame, setup, publish}
 use Rattle.model.specs.Cases.{size, shopRing, shopFrame}
 use Rattle.text.specs.Ascii.{ascii}
@@ -42,5 +43,5 @@ pub record Example : Type 0 where
   pub longer : replayText (exampleFile ++ (0 ∷ [])) ≡ ascii "recording=bad\n"
 
 pub example : Example
-unfolding first any distance waiting room wordAt readPixel storePixel raster formatOf byteOutside some outside pixelByte rectangleOf sourceOf patternOf colorPatternOf bltOf sourceValue withPattern withSource operandsAt drawOperands drawAt bltAt drawBlt drawTiled kindOf badHeader drawnBy badReturn wholeWords readAfter loadWords loaded judge retired headerRefusal commandRefusal needed ready stopped loadedCore pixelCount drawPixel drawnCore unitAt unit possible units unfit setup publish runWord runRefusal runUnits ranAnswer run runFrame decimal replayLines played playedFrame replay replayFrame fileWord badRecording replayed replayedFrame replayText frameBytes
+unfolding first any distance waiting room wordAt readPixel storePixel raster formatOf byteOutside some outside pixelByte rectangleOf sourceOf patternOf colorPatternOf bltOf sourceValue withPattern withSource operandsAt drawOperands drawAt bltAt drawBlt drawTiled straddles kindOf badHeader drawnBy badReturn wholeWords readAfter loadWords loaded judge retired headerRefusal commandRefusal needed ready stopped loadedCore pixelCount drawPixel drawnCore commandUnit unitAt unit possible units unfit setup publish runWord runRefusal runUnits ranAnswer run runFrame decimal replayLines played playedFrame replay replayFrame fileWord badRecording replayed replayedFrame replayText frameBytes
 example = record { lines = refl; frame = refl; longer = refl }

@@ -11,7 +11,7 @@ use Rattle.model.specs.Calls.{numberOf}
 use Rattle.model.specs.declared.State.{State}
 use Rattle.model.specs.declared.Primitive.the-variants.{Blt, Vector}
 use Rattle.model.specs.declared.Place.{Place}
-use Rattle.model.specs.declared.Place.the-variants.{Idle, Drawing}
+use Rattle.model.specs.declared.Place.the-variants.{Idle, Drawing, Wanting, Fed}
 use Rattle.model.specs.declared.RunWord.the-variants.{Stopped, Waiting, Spent}
 use Rattle.model.specs.declared.Reply.{Reply}
 use Rattle.model.specs.declared.Reply.the-variants.{Refused, Accepted, Ran}
@@ -94,6 +94,8 @@ unfolding filled
 drawing Idle = refl
 drawing (Drawing Blt k) = refl
 drawing (Drawing Vector k) = refl
+drawing (Wanting k) = refl
+drawing (Fed k feed) = refl
 
 abbrev pub callFilled : ℕ → State → Parts → Drawn → List ℕ
 callFilled op s parts drawn =

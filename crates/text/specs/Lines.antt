@@ -6,7 +6,7 @@ use lib.ListN.{getD}
 use Rattle.model.specs.Calls.{numberOf, unitsOf, roomOf}
 use Rattle.model.specs.declared.Primitive.the-variants.{Blt, Vector}
 use Rattle.model.specs.declared.Place.{Place}
-use Rattle.model.specs.declared.Place.the-variants.{Idle, Drawing}
+use Rattle.model.specs.declared.Place.the-variants.{Idle, Drawing, Wanting, Fed}
 use Rattle.model.specs.declared.RunWord.{RunWord}
 use Rattle.model.specs.declared.RunWord.the-variants.{Stopped, Waiting, Spent}
 use Rattle.model.specs.declared.Reply.{Reply}
@@ -76,11 +76,13 @@ answerName (Refused number) = ascii "refused-" ++ decimal number
 answerName (Accepted room) = ascii "0"
 answerName (Ran word units room) = runName word
 
--- the command in progress, and how many of its pixels are drawn
+-- the command in progress, also a BLT that wants data, and how many of its pixels are drawn
 abbrev pub placeName : Place → List ℕ
 placeName Idle = ascii "none"
 placeName (Drawing Blt k) = ascii "blt-" ++ decimal k
 placeName (Drawing Vector k) = ascii "vector-" ++ decimal k
+placeName (Wanting k) = ascii "blt-" ++ decimal k
+placeName (Fed k feed) = ascii "blt-" ++ decimal k
 
 -- a call, what it answers, and the state that it hands back: all but the last field end with a space
 unfoldable pub callLine : ℕ → Answer → List ℕ
@@ -126,3 +128,5 @@ abbrev pub drawnOf : Place → Drawn
 drawnOf Idle = record { command = 0; pixels = 0 }
 drawnOf (Drawing Blt k) = record { command = 1; pixels = k }
 drawnOf (Drawing Vector k) = record { command = 2; pixels = k }
+drawnOf (Wanting k) = record { command = 1; pixels = k }
+drawnOf (Fed k feed) = record { command = 1; pixels = k }

@@ -207,6 +207,14 @@ fn drawn_of(place: Place) -> Drawn
                 pixels: k as u64,
             },
         },
+        Place::Wanting(k) => Drawn {
+            command: 1,
+            pixels: k as u64,
+        },
+        Place::Fed(k, _) => Drawn {
+            command: 1,
+            pixels: k as u64,
+        },
     }
 }
 

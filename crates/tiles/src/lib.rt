@@ -22,7 +22,7 @@ use model::TILE;
 // ---- the tile
 
 // The low bytes of a number, as many as a pixel has.
-fn low_bytes(v: u32, depth: usize) -> u32
+pub fn low_bytes(v: u32, depth: usize) -> u32
     requires { ⌜ Depth depth ⌝ }
     ensures { λ r. ⌜ r ≡ v % 2 ^ (8 * depth) ⌝ }
 {
@@ -286,7 +286,7 @@ pub fn fill(
 }
 
 // The colour at column i of row j.
-fn color_at(
+pub fn color_at(
     tile: &[[u32; 8]; 8],
     d: Rectangle,
     row: usize,
@@ -305,7 +305,7 @@ fn color_at(
 }
 
 // The BLT with a solid pattern in place of its pattern.
-fn with_color(b: Blt, color: u32) -> Blt
+pub fn with_color(b: Blt, color: u32) -> Blt
     ensures { λ r. ⌜ r ≡ withColor b color ⌝ }
 {
     let destination = b.destination;

@@ -1,4 +1,4 @@
-use mathlib.Core.Path.{sym, _∙_}
+use mathlib.Core.Path.{refl, sym, _∙_}
 use native.Mathlib.Omega.{arith}
 use borrow.Author.Tests.{le-leb, lt-leb}
 use borrow.Author.Needs.{needs}
@@ -56,7 +56,7 @@ data-count-requires c κs = search needs
 
 -- src/lib.rt:303:9
 read-after-requires : tie.Need-read-after-requires
-read-after-requires c κs = omega (arith, c .before .before .before .before .before .before .before .length-of .ensures .1 (sym (c .before .before .before .before .before .before .bad-count .ensures) ∙ c .before .before .before .before .if1 .left))
+read-after-requires c κs = omega (arith, c .before .before .before .before .before .before .before .length-of .ensures .1 refl (sym (c .before .before .before .before .before .before .bad-count .ensures) ∙ c .before .before .before .before .if1 .left))
 
 -- src/lib.rt:285:1
 returns-4 : tie.Need-returns-4

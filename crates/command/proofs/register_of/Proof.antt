@@ -18,6 +18,9 @@ vector-register-requires c κs = rw (c .enum-told2 .given .1) at (c .before .bef
 enum-told-3 : tie.Need-enum-told-3
 enum-told-3 c = search needs
 
+enum-told-4 : tie.Need-enum-told-4
+enum-told-4 c = search needs
+
 returns : tie.Need-returns
 returns c =
     let h : c .before .before .args .i < 16 = rw (c .enum-told .given .1) at (c .before .before .pre) in
@@ -32,6 +35,11 @@ returns-3 c =
     let z : c .before .before .args .i ≡ 0 = omega arith in
     rw (c .enum-told3 .given .1, z) (refl, omega arith)
 
+returns-4 : tie.Need-returns-4
+returns-4 c =
+    let h : c .before .before .args .i < 0 = rw (c .enum-told4 .given .1) at (c .before .before .pre) in
+    absurd (omega arith)
+
 pub register-of-spec : {M : Type 1} → statement M
 register-of-spec =
     tie.close
@@ -40,6 +48,8 @@ register-of-spec =
     enum-told-2
     vector-register-requires
     enum-told-3
+    enum-told-4
     returns
     returns-2
-    returns-3)
+    returns-3
+    returns-4)

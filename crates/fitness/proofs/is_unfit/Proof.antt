@@ -1,3 +1,4 @@
+use Rattle.fitness.proofs.Places.{ring-long}
 use mathlib.Core.Path.{refl, sym, _∙_}
 use native.Mathlib.Omega.{arith}
 use borrow.Author.Tests.{le-leb, lt-leb}
@@ -40,7 +41,7 @@ returns-4 c =
     (any-here _ _ (sym (c .before .bad-stop .ensures) ∙ c .if4 .taken)))))
 
 bad-place-requires : tie.Need-bad-place-requires
-bad-place-requires c κs = search needs
+bad-place-requires c κs = (ring-long (c .before .before .before .before .before .before .before .before .args .c .ringlength) (c .before .before .before .before .before .before .before .before .args .c .framelength) (sym (c .before .before .before .before .before .before .before .length-refusal .ensures) ∙ c .before .before .before .before .before .before .if1 .left), omega arith, omega arith)
 
 returns-5 : tie.Need-returns-5
 unfolding positive

@@ -1,31 +1,25 @@
-use mathlib.Core.Path.{sym, _∙_}
-use Rattle.model.specs.BltPixel.{withSource, operandsAt}
 use Rattle.laws.specs.Rows.{source-within}
+use Rattle.model.specs.BltPixel.{operandsAt}
 use borrow.Author.Needs.{needs}
 use Rattle.operands.proofs.at.Statement.{statement}
 use Rattle.operands.proofs.at.Tie as tie
+use Rattle.operands.proofs.at.Reads as reads
+use Rattle.operands.proofs.at.Lts as lts
+use Rattle.operands.proofs.source_value.Reads as source-value-reads
+use Rattle.operands.proofs.with_source.Reads as with-source-reads
 
+-- src/lib.rt:148:9
 source-value-requires : tie.Need-source-value-requires
 source-value-requires c κs = source-within (c .before .before .pre)
 
-enum-told : tie.Need-enum-told
-enum-told c = search needs
+-- src/lib.rt:149:5
+with-source-requires : tie.Need-with-source-requires
+with-source-requires c κs = search needs
 
-enum-known-value : tie.Need-enum-known-value
-enum-known-value c = search needs
-
-with-pattern-requires : tie.Need-with-pattern-requires
-with-pattern-requires c κs = search needs
-
+-- src/lib.rt:141:1
 returns : tie.Need-returns
-unfolding operandsAt withSource
-returns c = rw (sym (c .before .before .source-value .ensures) ∙ c .enum-told .given .1)
-
-returns-2 : tie.Need-returns-2
-unfolding operandsAt withSource
-returns-2 c = rw (sym (c .before .before .before .before .source-value .ensures) ∙ c .before .before .value .given .1) (c .with-pattern .ensures)
+unfolding operandsAt
+returns c = rw (← c .before .source-value .ensures) (c .with-source .ensures)
 
 pub at-spec : {M : Type 1} → statement M
-at-spec =
-    tie.close
-    (tie.spec source-value-requires enum-told enum-known-value with-pattern-requires returns returns-2)
+at-spec = tie.close (tie.spec source-value-requires with-source-requires returns)

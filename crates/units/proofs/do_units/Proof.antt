@@ -1,62 +1,37 @@
-use Prim.Native.Nat.{_-_}
-use mathlib.Core.Path.{_∙_}
+use Rattle.units.proofs.Advances.{plain-restart, finished-then, finished-most}
 use native.Mathlib.Omega.{arith}
-use denote.Ref.{now}
-use Rattle.model.specs.Steps.{machine}
-use Rattle.units.specs.Turns.{Going}
-use Rattle.units.proofs.Advances.{advanced-most, advanced-some, advanced-length, going-start, going-on, finished-early, finished}
+use borrow.Author.Needs.{needs}
 use Rattle.units.proofs.do_units.Statement.{statement}
 use Rattle.units.proofs.do_units.Tie as tie
+use Rattle.units.proofs.do_units.Reads as reads
+use Rattle.units.proofs.do_units.Lts as lts
+use Rattle.units.proofs.do_plain.Reads as do-plain-reads
+use Rattle.units.proofs.go_on.Reads as go-on-reads
 
-abbrev Inv-loop : tie.InvT-loop
-Inv-loop write ring table₀ frame₀ budget d₀ used₀ table frame d used = Going ring write (machine d₀ table₀ frame₀) (machine d table frame) budget used
+-- src/lib.rt:473:9
+do-plain-requires : tie.Need-do-plain-requires
+do-plain-requires c κs = search needs
 
-abbrev μ-loop : tie.MeasureT-loop
-μ-loop write ring table₀ frame₀ budget d₀ used₀ table frame d used = budget - used
+-- src/lib.rt:475:49
+sub-go-on : tie.Need-sub-go-on
+sub-go-on c = search needs
 
-loop-holds : tie.Need-loop-holds Inv-loop μ-loop
-loop-holds c = going-start (now (c .before .before .args .ring)) (c .before .before .args .write) (machine (c .before .before .args .c) (c .before .before .args .table .now) (c .before .before .args .frame .now)) (c .before .before .args .budget) (c .before .before .pre)
+-- src/lib.rt:475:9
+go-on-requires : tie.Need-go-on-requires
+go-on-requires c κs = plain-restart (c .before .before .before .before .before .before .do-plain .ensures)
 
-sub-advance : tie.Need-sub-advance Inv-loop μ-loop
-sub-advance c = omega (arith, c .before .before .before .loop .inv .most)
+-- src/lib.rt:479:15
+add-t17 : tie.Need-add-t17
+add-t17 c = omega (arith, c .before .before .before .before .before .before .before .before .before .before .before .before .do-plain .ensures .going .most, finished-most (c .before .before .before .before .before .go-on .ensures), c .before .before .before .before .before .before .before .before .before .before .before .before .before .before .before .before .before .fits .budget)
 
-advance-requires : tie.Need-advance-requires Inv-loop μ-loop
-advance-requires c κs = (c .before .before .before .loop .inv .wellformed, omega arith)
+-- src/lib.rt:462:1
+same-length : tie.Need-same-length
+same-length c = search needs
 
-same-length : tie.Need-same-length Inv-loop μ-loop
-same-length c = advanced-length (c .before .before .before .before .advance .ensures) ∙ c .before .before .before .before .before .before .before .before .loop .inv .length-kept
-
-returns : tie.Need-returns Inv-loop μ-loop
-returns c = finished-early (now (c .before .before .before .before .before .before .before .before .before .before .before .args .ring)) (c .before .before .before .before .before .before .before .before .before .before .before .args .write) (machine (c .before .before .before .before .before .before .before .before .before .before .before .args .c) (c .before .before .before .before .before .before .before .before .before .before .before .args .table .now) (c .before .before .before .before .before .before .before .before .before .before .before .args .frame .now)) (c .before .before .before .before .before .before .before .before .before .before .before .args .budget) (c .before .before .before .before .before .before .before .before .loop .inv) (c .before .before .before .before .advance .ensures) (c .if1 .taken)
-
-add-used : tie.Need-add-used Inv-loop μ-loop
-add-used c = omega (arith, advanced-most (c .before .before .before .before .before .before .advance .ensures))
-
-loop-less : tie.Need-loop-less Inv-loop μ-loop
-loop-less c = omega (arith, advanced-most (c .before .before .before .before .before .before .advance .ensures), advanced-some (c .before .before .before .before .before .before .advance .ensures) (c .before .before .if1 .left))
-
-loop-again : tie.Need-loop-again Inv-loop μ-loop
-loop-again c = going-on (now (c .before .before .before .before .before .before .before .before .before .before .before .before .before .args .ring)) (c .before .before .before .before .before .before .before .before .before .before .before .before .before .args .write) (machine (c .before .before .before .before .before .before .before .before .before .before .before .before .before .args .c) (c .before .before .before .before .before .before .before .before .before .before .before .before .before .args .table .now) (c .before .before .before .before .before .before .before .before .before .before .before .before .before .args .frame .now)) (c .before .before .before .before .before .before .before .before .before .before .before .before .before .args .budget) (c .before .before .before .before .before .before .before .before .before .before .loop .inv) (c .before .before .before .before .before .before .advance .ensures) (c .before .before .if1 .left)
-
-same-length-2 : tie.Need-same-length-2 Inv-loop μ-loop
-same-length-2 c = c .before .loop .inv .length-kept
-
-returns-2 : tie.Need-returns-2 Inv-loop μ-loop
-returns-2 c = finished (now (c .before .before .before .before .args .ring)) (c .before .before .before .before .args .write) (machine (c .before .before .before .before .args .c) (c .before .before .before .before .args .table .now) (c .before .before .before .before .args .frame .now)) (c .before .before .before .before .args .budget) (c .before .loop .inv) (c .loop-test .left)
+-- src/lib.rt:462:1
+returns : tie.Need-returns
+returns c = finished-then (c .before .before .before .before .before .before .before .before .before .before .before .before .do-plain .ensures .going) (c .before .before .before .before .before .go-on .ensures)
 
 pub do-units-spec : {M : Type 1} → statement M
 do-units-spec =
-    tie.close
-    (tie.spec
-    Inv-loop
-    μ-loop
-    loop-holds
-    sub-advance
-    advance-requires
-    same-length
-    returns
-    add-used
-    loop-less
-    loop-again
-    same-length-2
-    returns-2)
+    tie.close (tie.spec do-plain-requires sub-go-on go-on-requires add-t17 same-length returns)

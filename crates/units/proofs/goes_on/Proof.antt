@@ -1,28 +1,26 @@
-use mathlib.Core.Path.{sym, ap, _∙_}
-use mathlib.Core.Bool.{_||_}
-use denote.Ref.{now}
-use Rattle.model.specs.Unit.{drawing, ready}
-use Rattle.model.specs.declared.Place.{Place}
 use borrow.Author.Needs.{needs}
 use Rattle.units.proofs.goes_on.Statement.{statement}
 use Rattle.units.proofs.goes_on.Tie as tie
+use Rattle.units.proofs.goes_on.Reads as reads
+use Rattle.units.proofs.goes_on.Lts as lts
+use Rattle.units.proofs.is_drawing.Reads as is-drawing-reads
+use Rattle.units.proofs.is_ready.Reads as is-ready-reads
 
-enum-told : tie.Need-enum-told
-enum-told c = search needs
+-- src/lib.rt:490:9
+is-drawing-requires : tie.Need-is-drawing-requires
+is-drawing-requires c κs = search needs
 
+-- src/lib.rt:492:9
+returns : tie.Need-returns
+returns c = search needs
+
+-- src/lib.rt:494:5
 is-ready-requires : tie.Need-is-ready-requires
 is-ready-requires c κs = search needs
 
-enum-told-2 : tie.Need-enum-told-2
-enum-told-2 c = search needs
-
-returns : tie.Need-returns
-returns c =
-    c .is-ready .ensures
-    ∙ ap (λ (q : Place). drawing q || ready (now (c .before .before .before .before .args .ring)) (c .before .before .before .before .args .c) (c .before .before .before .before .args .write)) (sym (c .before .enum-told .given .1))
-
+-- src/lib.rt:485:1
 returns-2 : tie.Need-returns-2
-returns-2 c = search needs
+returns-2 c = rw (← c .before .before .is-drawing .ensures, c .before .if1 .left) (c .is-ready .ensures)
 
 pub goes-on-spec : {M : Type 1} → statement M
-goes-on-spec = tie.close (tie.spec enum-told is-ready-requires enum-told-2 returns returns-2)
+goes-on-spec = tie.close (tie.spec is-drawing-requires returns is-ready-requires returns-2)

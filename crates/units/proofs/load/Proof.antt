@@ -34,6 +34,9 @@ returns c =
     let l = rw (c .before .before .before .before .before .before .before .before .before .pre .header-is) at (c .before .before .before .before .before .before .load .ensures) in
     c .halt .ensures ∙ load-refuses _ _ l h (c .before .before .refusal .ensures) (c .before .if1 .taken)
 
+first-place-requires : tie.Need-first-place-requires
+first-place-requires c κs = search needs
+
 moved-requires-2 : tie.Need-moved-requires-2
 moved-requires-2 c κs = search needs
 
@@ -45,9 +48,9 @@ returns-2 c =
 
 returns-3 : tie.Need-returns-3
 returns-3 c =
-    let h = subst (λ (d : Drawn). Loadable (now (c .before .before .before .before .before .before .before .before .before .args .ring)) (c .before .before .before .before .before .before .before .before .before .args .c) (c .before .before .before .before .before .before .before .before .before .args .header) d (c .before .before .before .before .before .before .before .before .before .args .next)) (c .before .before .before .before .drawn .given .1) (c .before .before .before .before .before .before .before .before .before .pre) in
-    let l = rw (c .before .before .before .before .before .before .before .before .before .pre .header-is) at (c .before .before .before .before .before .before .load .ensures) in
-    c .moved2 .ensures ∙ load-draws _ _ l h (c .before .before .refusal .ensures) (c .before .if1 .left)
+    let h = subst (λ (d : Drawn). Loadable (now (c .before .before .before .before .before .before .before .before .before .before .args .ring)) (c .before .before .before .before .before .before .before .before .before .before .args .c) (c .before .before .before .before .before .before .before .before .before .before .args .header) d (c .before .before .before .before .before .before .before .before .before .before .args .next)) (c .before .before .before .before .before .drawn .given .1) (c .before .before .before .before .before .before .before .before .before .before .pre) in
+    let l = rw (c .before .before .before .before .before .before .before .before .before .before .pre .header-is) at (c .before .before .before .before .before .before .before .load .ensures) in
+    c .moved2 .ensures ∙ load-draws _ _ l h (c .before .before .before .refusal .ensures) (c .before .before .if1 .left) (c .before .first-place .ensures)
 
 pub load-spec : {M : Type 1} → statement M
 load-spec =
@@ -61,6 +64,7 @@ load-spec =
     refusal-requires
     halt-requires
     returns
+    first-place-requires
     moved-requires-2
     returns-2
     returns-3)
