@@ -1,6 +1,6 @@
 //! Random cases: recordings and traces, directed so that accepted drawing is common and every refusal comes up.
 
-use crate::model::{self, Kind, Pattern, Registers, SourceMode, State, Word};
+use crate::model::{self, Data, Kind, Pattern, Registers, SourceMode, State, Word};
 use crate::model::{
     BASE_OFFSET, BLT_MODE, CH3_MODE_STR, CH3_OFFSET, CH3_WIDHI, DST_OFFSET, LUT_INDEX, PAT_COLOR_0, PAT_COLOR_1, PAT_DATA_0,
     PAT_DATA_1, RASTER_MODE, SRC_COLOR_BG, SRC_COLOR_FG, SRC_OFFSET, STRIDE, VECTOR_MODE, VEC_ERR, VEC_LEN, WID_HEIGHT,
@@ -216,6 +216,7 @@ const XLSBS: u32 = 7 << 26;
 const SI: u32 = 1 << 13;
 const PI: u32 = 1 << 12;
 const ST: u32 = 1 << 11;
+const HOST: u32 = 2;
 const X_NEGATIVE: u32 = 1 << 9;
 const Y_NEGATIVE: u32 = 1 << 8;
 
@@ -490,6 +491,57 @@ fn wish_vector(rng: &mut Rng, registers: &Registers, frame_len: i64, most: i64) 
     r
 }
 
+/// New values for a BLT with host source that is to be drawn, but for its place: rows that end about a word's end, or of any length.
+fn wish_picture(rng: &mut Rng, registers: &Registers, frame_len: i64, most: i64) -> Registers {
+    let mut r = wish_blt(rng, registers, frame_len, most);
+    let depth = model::bytes_per_pixel(&r).unwrap_or(1);
+    let source_mode = rng.pick(&[0, 0, 1, 1, 2]);
+    r[BLT_MODE] = r[BLT_MODE] & !(X_NEGATIVE | Y_NEGATIVE | 0xC3) | source_mode << 6 | HOST;
+    r[BLT_MODE] |= rng.bits() & (X_NEGATIVE | Y_NEGATIVE);
+    r[RASTER_MODE] &= !(SI | ST);
+    if source_mode != 0 {
+        r[RASTER_MODE] |= rng.bits() & (SI | ST);
+    }
+    if rng.chance(1, 2) {
+        r[RASTER_MODE] = r[RASTER_MODE] & !0xFF | rng.pick(&[0xCC, 0xCC, 0xF0, 0xF0, 0x5A, 0x66]);
+    }
+    if rng.chance(1, 2) {
+        r[SRC_COLOR_BG] = rng.stale();
+    }
+    // the offset's two low bits and XLSBS; all other bits have no effect
+    r[SRC_OFFSET] = rng.bits();
+    let one_pixel = source_mode == 0 && depth == 2 && rng.chance(1, 8);
+    match (source_mode, depth) {
+        (0, 2) => r[SRC_OFFSET] = r[SRC_OFFSET] & !3 | if one_pixel { 1 } else { rng.pick(&[0, 2]) },
+        (0, 4) => r[SRC_OFFSET] &= !3,
+        _ => {}
+    }
+
+    // rows
+    let first_bit = 8 * model::first_byte(&r) + model::source_xlsbs(&r);
+    let mut width = match rng.below(5) {
+        _ if one_pixel => 1,
+        0 => rng.pick(&ROW_LENGTHS) / depth,
+        1 | 2 if source_mode != 0 => 32 * rng.between(1, 3) - first_bit + rng.between(-1, 1),
+        3 if source_mode != 0 => mono_width(rng, model::source_xlsbs(&r)),
+        1 => rng.between(1, 20),
+        2 => rng.between(1, most),
+        3 => rng.between(17, 40),
+        _ => rng.between(1, 9),
+    };
+    let most = if source_mode == 0 { most } else { most.max(100) };
+    width = width.clamp(1, (frame_len / depth).min(most)).min(4_095);
+    let row = width * depth;
+    let to = stride(rng, row);
+    let mut height = if rng.chance(1, 4) { 1 } else { rng.between(1, 9) }.clamp(1, (most / width).max(1));
+    if to != 0 {
+        height = height.min(1 + (frame_len - row) / i64::from(to));
+    }
+    r[STRIDE] = rng.stale() << 16 | to;
+    r[WID_HEIGHT] = r[WID_HEIGHT] & 0xF000_F000 | (width as u32) << 16 | height as u32;
+    r
+}
+
 /// Registers for a command that judging accepts.
 fn wish(rng: &mut Rng, kind: Kind, registers: &Registers, frame_len: u32, most: i64) -> Registers {
     let len = i64::from(frame_len);
@@ -607,7 +659,7 @@ fn damage(rng: &mut Rng, kind: Kind, r: &mut Registers, frame_len: u32, number: 
                 }
             }
             6 | 7 => set_source_mode(r, 3),
-            8 => r[BLT_MODE] = r[BLT_MODE] & !3 | rng.pick(&[2, 3]),
+            8 => r[BLT_MODE] |= 3,
             code @ 9..=10 => {
                 // mono from frame memory with X negative
                 set_source_mode(r, code as u32 - 8);
@@ -810,6 +862,211 @@ fn bad_table_load(rng: &mut Rng, registers: &Registers, number: u32) -> Vec<u32>
     words
 }
 
+// ---- Pictures -------------------------------------------------------------------------------------------------------------------
+
+const DATA: u32 = 3 << 29;
+
+/// A data command of random words.
+fn data_command(rng: &mut Rng, count: u32) -> Vec<u32> {
+    let mut header = DATA | u32::from(rng.chance(3, 4)); // the count word's enable, without effect
+    if rng.chance(1, 6) {
+        header |= 1 << 28;
+    }
+    let mut words = vec![header, count];
+    words.extend((0..count).map(|_| rng.bits()));
+    words
+}
+
+/// How many words each data command has for this BLT: all in one, one word each, a row each, or as it comes. The last may have more than are
+/// wanted.
+fn split(rng: &mut Rng, r: &Registers) -> Vec<u32> {
+    let total = 1 + model::word_of_pixel(r, model::pixel_count(Kind::Blt, r) - 1) as u32;
+    let row = (total / model::height(r) as u32).max(1);
+    let step = match rng.below(8) {
+        0 | 1 => total,
+        2 if total <= 12 => 1,
+        3 | 4 if total <= 12 * row => row,
+        _ => 0,
+    };
+    let (mut counts, mut left) = (Vec::new(), total);
+    while left > 0 {
+        let any = if counts.len() < 4 { rng.between(1, i64::from(left)) as u32 } else { left };
+        let count = if step > 0 { step.min(left) } else { any };
+        counts.push(count);
+        left -= count;
+    }
+    if rng.chance(1, 4) {
+        let more = rng.between(1, 20) as u32;
+        *counts.last_mut().unwrap_or(&mut left) += rng.pick(&[1, 1, 2, more]);
+    }
+    counts
+}
+
+/// A BLT with host source and its data commands, or nothing, if there is no room for them; the registers follow.
+fn picture(rng: &mut Rng, registers: &mut Registers, frame_len: u32, most: i64, room: u32) -> Vec<Vec<u32>> {
+    for attempt in 0..6 {
+        let len = i64::from(frame_len);
+        let mut r = wish_picture(rng, registers, len, (most >> attempt).max(4));
+        if !settle(rng, Kind::Blt, &mut r, len, false) || model::judge(Kind::Blt, &r, frame_len) != 0 {
+            continue;
+        }
+        let counts = split(rng, &r);
+        if 17 + counts.iter().map(|count| 2 + count).sum::<u32>() > room {
+            continue;
+        }
+        let words = emit(rng, Kind::Blt, registers, &r, true);
+        load(registers, Kind::Blt, &words);
+        let mut list = vec![words];
+        list.extend(counts.into_iter().map(|count| data_command(rng, count)));
+        return list;
+    }
+    Vec::new()
+}
+
+/// Makes the count word of a data command such that 32 covers it.
+fn damage_data_count(rng: &mut Rng, word: &mut u32, ring_len: u32) {
+    match rng.below(8) {
+        0 | 1 => *word = *word & 0x1FFF_FFFF | rng.pick(&[1, 2, 3, 3, 4, 5, 6, 7]) << 29,
+        2 | 3 => *word |= 1 << rng.between(16, 28),
+        4 => *word &= 0xFFFF_0000,
+        5 | 6 => *word = *word & 0xFFFF_0000 | (ring_len - 2),
+        _ => {
+            let any = rng.between(i64::from(ring_len), 0xFFFF) as u32;
+            *word = *word & 0xFFFF_0000 | rng.pick(&[ring_len - 1, ring_len, ring_len + 1, 0xFFFF, 0x8000 | *word & 0xFF, any]);
+        }
+    }
+}
+
+/// A command that is no data command.
+fn other_command(rng: &mut Rng, registers: &Registers, frame_len: u32) -> Vec<u32> {
+    match rng.below(10) {
+        0 => {
+            let number = rng.pick(&[22, 29]);
+            bad_table_load(rng, registers, number)
+        }
+        1 | 2 => table_load(rng, &mut registers.clone(), Some(0x100), 3),
+        3 => {
+            let number = rng.between(23, 28) as u32;
+            bad(rng, registers, frame_len, number)
+        }
+        4 => picture(rng, &mut registers.clone(), frame_len, 20, u32::MAX).into_iter().next().unwrap_or_default(),
+        _ => {
+            let kind = some_kind(rng);
+            let wished = wish(rng, kind, registers, frame_len, 20);
+            let draw = rng.chance(1, 2);
+            emit(rng, kind, registers, &wished, draw)
+        }
+    }
+}
+
+/// A picture at this ring word that is stopped on its way or just breaks off, or one with data that nobody wants before or behind it.
+fn bad_picture(rng: &mut Rng, registers: &Registers, frame_len: u32, ring_len: u32, at: u32) -> Vec<Vec<u32>> {
+    let mut after = *registers;
+    let mut list = picture(rng, &mut after, frame_len, 60, 300);
+    let mut data = {
+        let count = rng.between(1, 6) as u32;
+        data_command(rng, count)
+    };
+    let choice = rng.below(16);
+    if choice < 3 || list.is_empty() {
+        // 31
+        match rng.below(4) {
+            0 => damage_data_count(rng, &mut data[1], ring_len),
+            1 => data[0] |= 1 << 31,
+            _ => {}
+        }
+        if choice < 2 { list.push(data) } else { list = vec![data] }
+        return list;
+    }
+    if list.len() == 2 && list[1].len() > 3 && rng.chance(2, 3) {
+        // a first part of it
+        let count = rng.between(1, list[1].len() as i64 - 3) as u32;
+        list[1].truncate(2 + count as usize);
+        list[1][1] = count;
+    } else {
+        let kept = rng.between(1, list.len() as i64 - 1);
+        list.truncate(kept as usize);
+    }
+    let place = at + list.iter().map(|words| words.len() as u32).sum::<u32>();
+    match choice {
+        3..=7 => {
+            let mut words = other_command(rng, &after, frame_len); // 30
+            if words.is_empty() {
+                return list;
+            }
+            if rng.chance(1, 8) {
+                words[0] |= 1 << 31;
+            }
+            list.push(words);
+        }
+        8 | 9 => {
+            let mut words = if rng.chance(1, 2) { data } else { other_command(rng, &after, frame_len) };
+            if let Some(header) = words.first_mut() {
+                let lowest = match *header >> 29 & 3 {
+                    0 => 16,
+                    1 => 13,
+                    2 => 2,
+                    _ => 1,
+                };
+                *header |= 1 << rng.between(lowest, 27);
+                list.push(words);
+            }
+        }
+        10..=12 => {
+            damage_data_count(rng, &mut data[1], ring_len);
+            if rng.chance(1, 8) {
+                damage_data_count(rng, &mut data[1], ring_len);
+            }
+            if rng.chance(1, 5) {
+                data[0] |= 1 << 31;
+            }
+            list.push(data);
+        }
+        13 | 14 => {
+            // W, and up to the ring's end and one word further, or as long as can be
+            let left = ring_len.saturating_sub(place);
+            let count = if left > 2 && rng.chance(1, 2) { left - 1 } else { ring_len - 3 };
+            data[0] |= 1 << 31;
+            data[1] = count;
+            list.push(data);
+        }
+        _ => {}
+    }
+    list
+}
+
+/// A BLT with host source that judging refuses, mostly by 24.
+fn refused_picture(rng: &mut Rng, registers: &Registers, frame_len: u32) -> Vec<u32> {
+    let mut r = wish_picture(rng, registers, i64::from(frame_len), 40);
+    settle(rng, Kind::Blt, &mut r, i64::from(frame_len), false);
+    let choice = rng.below(12);
+    if choice < 8 {
+        // a colour source
+        r[RASTER_MODE] &= !(SI | ST);
+        set_source_mode(&mut r, 0);
+    }
+    match choice {
+        0..=5 => {
+            // some pixel straddles two words, or there is none
+            let format = rng.pick(&[4, 5, 6, 6, 8, 8]);
+            r[RASTER_MODE] = r[RASTER_MODE] & 0x0FFF_FFFF | format << 28;
+            r[CH3_MODE_STR] &= !CH3_ON;
+            let any = rng.between(1, 3) as u32;
+            let first = if format < 8 { rng.pick(&[1, 3]) } else { any };
+            r[SRC_OFFSET] = r[SRC_OFFSET] & !3 | first;
+            let width = rng.pick(&[0, 1, 1, 2, 2, 2, 3]);
+            let height = rng.pick(&[0, 1, 1, 1, 2, 2]);
+            r[WID_HEIGHT] = r[WID_HEIGHT] & 0xF000_F000 | width << 16 | height;
+        }
+        6 => r[RASTER_MODE] |= SI,
+        7 => r[RASTER_MODE] |= ST,
+        8 => set_source_mode(&mut r, 3),
+        9 => r[BLT_MODE] |= 3,
+        _ => damage(rng, Kind::Blt, &mut r, frame_len, 27),
+    }
+    emit(rng, Kind::Blt, registers, &r, true)
+}
+
 // ---- Lists of commands ----------------------------------------------------------------------------------------------------------
 
 fn some_kind(rng: &mut Rng) -> Kind {
@@ -839,6 +1096,13 @@ fn good(rng: &mut Rng, registers: &mut Registers, frame_len: u32, most: i64, roo
         let words = emit(rng, words_kind, registers, &junk, false);
         load(registers, words_kind, &words);
         list.push(words);
+    }
+    if kind == Kind::Blt && room > 80 && rng.chance(1, 5) {
+        let picture = picture(rng, registers, frame_len, most, room);
+        if !picture.is_empty() {
+            list.extend(picture);
+            return list;
+        }
     }
     let wished = wish(rng, kind, registers, frame_len, most);
     if rng.chance(1, 6) {
@@ -892,10 +1156,14 @@ fn bad(rng: &mut Rng, registers: &Registers, frame_len: u32, number: u32) -> Vec
     let mut words = emit(rng, kind, registers, &wished, draw);
     if number == 21 {
         let lowest = if kind == Kind::Blt { 16 } else { 13 };
-        match rng.below(4) {
-            0 => words[0] |= 3 << 29, // kind 11
-            1 => words[0] |= 1 << lowest,
-            2 => words[0] |= 1 << 27,
+        match rng.below(6) {
+            0..=2 => {
+                // a data command's header
+                words.truncate(3);
+                words[0] = DATA | 1 << rng.between(1, 27);
+            }
+            3 => words[0] |= 1 << lowest,
+            4 => words[0] |= 1 << 27,
             _ => words[0] |= 1 << rng.between(lowest, 27),
         }
     }
@@ -1035,9 +1303,18 @@ pub fn recording(rng: &mut Rng) -> Vec<u8> {
     // the position behind each command
     let mut ends = vec![ring.len()];
     while ring.len() + 17 <= full {
+        if ending == 4 && ring.len() + 400 < full && rng.chance(1, 20) {
+            for words in bad_picture(rng, &registers, frame_len, ring_len, ring.len() as u32) {
+                inside.push(ring.len() + rng.between(1, 3) as usize);
+                ring.extend(words);
+                ends.push(ring.len());
+            }
+            break;
+        }
         if ending > 4 && (ring.len() + 34 > full || rng.chance(1, 60)) {
             let number = some_refusal(rng);
-            let words = bad(rng, &registers, frame_len, number);
+            let words =
+                if rng.chance(1, 8) { refused_picture(rng, &registers, frame_len) } else { bad(rng, &registers, frame_len, number) };
             inside.extend(model::is_table_load(words[0]).then(|| ring.len() + rng.between(1, 4) as usize));
             ring.extend(words);
             ends.push(ring.len());
@@ -1046,7 +1323,7 @@ pub fn recording(rng: &mut Rng) -> Vec<u8> {
         let room = (full - ring.len()) as u32;
         for words in good(rng, &mut registers, frame_len, most, room) {
             if ring.len() + words.len() <= full {
-                if model::is_table_load(words[0]) {
+                if model::kind_of(words[0]).is_none() {
                     let words_before = rng.between(1, words.len() as i64 - 1);
                     inside.push(ring.len() + rng.pick(&[1, 2, 3, words_before, words_before]) as usize);
                 }
@@ -1094,17 +1371,27 @@ struct Cuts {
     units: u32,
     slot: (usize, usize),
     found: [[Vec<u32>; 6]; WAYS.len()],
+    /// where a BLT wants data, or has just accepted some
+    wanted: Vec<u32>,
 }
 
 impl Cuts {
     fn new() -> Cuts {
-        Cuts { units: 0, slot: (0, 0), found: Default::default() }
+        Cuts { units: 0, slot: (0, 0), found: Default::default(), wanted: Vec::new() }
     }
 
     /// After each unit; the first commands, which paint the ground, are left out.
     fn see(&mut self, after: &State) {
         self.units += 1;
         let r = &after.registers;
+        if let Some(place) = after.place {
+            let first = |before: i64| place.drawn == 0 || model::word_of_pixel(r, place.drawn - 1) < before;
+            match place.data {
+                Data::Wanted => self.wanted.push(self.units),
+                Data::Fed { before, .. } if first(before) => self.wanted.push(self.units),
+                _ => {}
+            }
+        }
         if let Some(place) = after.place.filter(|place| place.kind == Kind::Blt && after.completion >= 3) {
             if self.units == 1 || place.drawn <= 1 {
                 let depth = model::bytes_per_pixel(r).unwrap_or(1) as usize;
@@ -1121,8 +1408,11 @@ impl Cuts {
         let all = [
             "fill", "fill", "fill", "fill", "fill", "XOR", "XOR", "XOR", "XOR", "copy", "copy", "copy", "other code", "other code",
             "mono pattern", "mono pattern", "mono pattern", "sourceless", "sourceless", "text", "colour pattern", "colour pattern",
-            "colour pattern",
+            "colour pattern", "host", "host", "host", "host",
         ];
+        if !self.wanted.is_empty() && rng.chance(1, 8) {
+            return Some(rng.pick(&self.wanted));
+        }
         let sides = |name: &&str| {
             let way = WAYS.iter().position(|way| way == name).unwrap_or(0);
             self.found[way].iter().filter(|cuts| !cuts.is_empty()).collect::<Vec<_>>()
@@ -1308,6 +1598,15 @@ impl Host<'_> {
             // up to the ring's end, or one word too long for W
             let count = to_end - self.rng.pick(&[3, 3, 2]);
             vec![table_load(self.rng, &mut self.ahead, Some(0x100), count)]
+        } else if (18..=50).contains(&to_end) && self.rng.chance(if to_end < 20 { 2 } else { 1 }, 3) {
+            // a picture across the ring's end, or begun again at word 0
+            picture(self.rng, &mut self.ahead, frame_len, self.most, self.state.ring_len - 1)
+        } else if self.rng.chance(1, 120) {
+            self.long_picture()
+        } else if self.rng.chance(1, 14) {
+            bad_picture(self.rng, &self.ahead, frame_len, self.state.ring_len, self.tip)
+        } else if self.rng.chance(1, 70) {
+            vec![refused_picture(self.rng, &self.ahead, frame_len)]
         } else if self.rng.chance(1, 9) {
             let number = some_refusal(self.rng);
             vec![bad(self.rng, &self.ahead, frame_len, number)]
@@ -1318,10 +1617,12 @@ impl Host<'_> {
         for mut words in list {
             let length = words.len() as u32;
             let table_load = model::is_table_load(words[0]);
+            let data = model::is_data(words[0]);
             let room_behind = self.state.ring_len - at;
             let w_is_good = at != 0 && length <= room_behind;
             let w = if !w_is_good {
-                self.rng.chance(1, if table_load { 2 } else { 14 }) // refused by 22
+                let whole = if table_load { 2 } else if data { 5 } else { 14 };
+                self.rng.chance(1, whole) // refused by 22
             } else if room_behind < 2 * length {
                 self.rng.chance(1, 2)
             } else {
@@ -1330,8 +1631,8 @@ impl Host<'_> {
             if w {
                 words[0] |= 1 << 31;
             }
-            if table_load {
-                self.queue_table_load(words);
+            if table_load || data || self.rng.chance(1, 20) {
+                self.queue_in_parts(words);
             } else {
                 self.queue.extend(words.into_iter().map(Item::Word));
             }
@@ -1343,9 +1644,22 @@ impl Host<'_> {
         }
     }
 
-    /// Queues a table load, often with a pause after one, two or three words or inside its data. Of many words of data most are left as
-    /// they stand in the ring.
-    fn queue_table_load(&mut self, words: Vec<u32>) {
+    /// A picture of few pixels in one data command that fills the ring.
+    fn long_picture(&mut self) -> Vec<Vec<u32>> {
+        let mut list = picture(self.rng, &mut self.ahead, self.state.frame_len, 12, 200);
+        list.truncate(2);
+        if let Some(words) = list.get_mut(1) {
+            let count = self.state.ring_len - 3;
+            words[1] = count;
+            words.resize(2 + count as usize, 0);
+        }
+        list
+    }
+
+    /// Queues a table load or a data command, often with a pause after one, two or three words or inside its data. Of many words of data
+    /// most are left as they stand in the ring.
+    fn queue_in_parts(&mut self, words: Vec<u32>) {
+        let data = model::is_data(words[0]);
         let inside = self.rng.between(1, words.len() as i64 - 1) as usize;
         let pause = match self.rng.below(8) {
             words_first @ 1..=3 => words_first as usize,
@@ -1353,12 +1667,13 @@ impl Host<'_> {
             5 => words.len() - 1,
             _ => 0,
         };
-        let long = words.len() > 67;
+        let long = words.len() > if data { 40 } else { 67 };
+        let first_data = if data { 2 } else { 3 };
         for (i, word) in words.into_iter().enumerate() {
             if i > 0 && i == pause {
                 self.queue.push_back(Item::Pause);
             }
-            let kept = long && i >= 3 && !self.rng.chance(1, 5);
+            let kept = long && i >= first_data && !self.rng.chance(1, if i < 100 { 5 } else { 40 });
             self.queue.push_back(if kept { Item::Kept } else { Item::Word(word) });
         }
     }
@@ -1445,12 +1760,27 @@ impl Host<'_> {
         }
     }
 
+    /// A host that alters the data command that is accepted: its header, its count word, a data word, or a word that W skips.
+    fn alter(&mut self, count: u32, w: bool) {
+        let size = self.state.ring_len;
+        let skipped = size - self.state.read;
+        let into = match self.rng.below(8) {
+            0..=2 => 0,
+            3..=5 => 1,
+            6 if w && skipped > 2 + count => self.rng.between(i64::from(2 + count), i64::from(skipped) - 1) as u32,
+            _ => 2 + self.rng.below(u64::from(count)) as u32,
+        };
+        let any = self.rng.stale();
+        let word = if into == 1 { self.rng.pick(&[0, 1, count + 1, count - 1, any]) } else { any };
+        self.store((self.state.read + into) % size, word);
+    }
+
     /// Goes on near the ring's end, or at its first word, without filling the ring: what is published while the engine is stopped is
     /// dropped by the restart.
     fn publish_far(&mut self) {
         let size = self.state.ring_len;
         let any = self.rng.between(1, 60) as u32;
-        let before_end = self.rng.pick(&[0, 1, 2, 3, 5, 14, 17, 31, 34, any, any, any, any, any, any]);
+        let before_end = self.rng.pick(&[0, 1, 2, 3, 5, 14, 17, 18, 19, 31, 34, any, any, any, any, any, any]);
         self.publish((size - before_end) % size);
     }
 
@@ -1475,6 +1805,12 @@ impl Host<'_> {
                 _ => self.ask_for_room(),
             }
             return;
+        }
+        if let Some(Data::Fed { count, w, .. }) = self.state.place.map(|place| place.data) {
+            if self.rng.chance(1, 6) {
+                self.alter(count, w);
+                return;
+            }
         }
         match self.rng.below(40) {
             0..=17 => {
@@ -1517,7 +1853,7 @@ pub fn trace(rng: &mut Rng) -> Vec<u8> {
     let frame_len = some_frame_length(rng).min(8_000);
     let (state, _) = model::setup(ring_len, frame_len);
     let most = rng.pick(&[6, 20, 60, 200]);
-    let records = rng.pick(&[60, 600, 1_400, 2_600]);
+    let records = rng.pick(&[60, 700, 1_700, 3_200]);
     let mut host = Host {
         rng,
         records: vec![ring_len, frame_len],
@@ -1533,7 +1869,7 @@ pub fn trace(rng: &mut Rng) -> Vec<u8> {
     host.queue.extend(words.into_iter().map(Item::Word));
     if host.rng.chance(3, 5) {
         let words = table_load(host.rng, &mut host.ahead, Some(0x100), 64);
-        host.queue_table_load(words);
+        host.queue_in_parts(words);
     }
     while host.records.len() < 3 * records {
         host.step();

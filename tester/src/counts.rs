@@ -1,7 +1,8 @@
 //! How often each refusal, answer and kind of drawing came up. A name in the list that never came up fails the run.
 
 use crate::cases::span;
-use crate::model::{self, field, Answer, Kind, Pattern, Registers, SourceMode, State, Table, Word};
+use crate::host::{self, mode_name};
+use crate::model::{self, field, Answer, Data, Kind, Pattern, Registers, SourceMode, State, Table, Word};
 use crate::model::{
     BASE_OFFSET, BLT_MODE, CH3_MODE_STR, CH3_OFFSET, DST_OFFSET, PAT_COLOR_0, RASTER_MODE, SRC_COLOR_FG, SRC_OFFSET, VECTOR_MODE,
     WID_HEIGHT,
@@ -12,15 +13,15 @@ use crate::tables::{self, Follow};
 use std::collections::BTreeMap;
 
 /// Refusals 3 and 4 are not here: the programs hand on the state that they were given and lend what they set up. What W3 needs at each
-/// depth is in `short_ways`, what W4 needs in `tables`.
+/// depth is in `short_ways`, what W4 needs in `tables`, what W5 needs in `host`.
 const NEEDED: &[(&str, &[&str])] = &[
-    ("refusals", &["1", "2", "5", "6", "7", "21", "22", "23", "24", "25", "26", "27", "28", "29"]),
+    ("refusals", &["1", "2", "5", "6", "7", "21", "22", "23", "24", "25", "26", "27", "28", "29", "30", "31", "32"]),
     (
         "refused for",
         &[
-            "1 at 64 words", "1 at 1,023 words", "21 kind 11", "21 reserved bit", "21 before the command is whole", "22 at ring word 0",
+            "1 at 64 words", "1 at 1,023 words", "21 reserved bit", "21 before the command is whole", "22 at ring word 0",
             "22 across the end",
-            "22 before the command is whole", "23 format", "23 alpha", "24 SM 11 with a source", "24 SM 11 without a source", "24 SR",
+            "22 before the command is whole", "23 format", "23 alpha", "24 SM 11 with a source", "24 SM 11 without a source", "24 SR 11",
             "24 PM 11 of a BLT", "24 PM 11 under channel 3's pattern", "24 PM 01 of a vector", "24 PM 10 of a vector",
             "24 PM 11 of a vector", "24 SI of a vector", "24 ST of a vector", "24 SI on a colour source",
             "24 ST on a colour source", "24 SI with SM 00 and no source", "24 ST with SM 00 and no source", "24 PI of a BLT",
@@ -155,6 +156,8 @@ pub struct Counts {
     data_types: [u64; 7],
     reserved_bits: [u64; 13],
     follow: Follow,
+    pictures: host::Follow,
+    host: host::Sets,
     pub units: u64,
     /// which kind of command wrote registers 2 and 4 last, in this case
     wrote: [Option<Kind>; 2],
@@ -171,7 +174,7 @@ pub struct Counts {
 impl Counts {
     pub fn new() -> Counts {
         let mut count = BTreeMap::new();
-        for (_, names) in NEEDED.iter().chain(tables::NEEDED) {
+        for (_, names) in NEEDED.iter().chain(tables::NEEDED).chain(host::NEEDED) {
             for name in *names {
                 count.insert(name.to_string(), 0);
             }
@@ -201,6 +204,8 @@ impl Counts {
             data_types: [0; 7],
             reserved_bits: [0; 13],
             follow: Follow::new(),
+            pictures: host::Follow::new(),
+            host: host::Sets::new(),
             units: 0,
             wrote: [None, None],
             loaded: (0, 0),
@@ -217,6 +222,7 @@ impl Counts {
         self.fresh = true;
         self.recording = recording;
         self.follow = Follow::new();
+        self.pictures = host::Follow::new();
     }
 
     pub fn hit(&mut self, name: &str) {
@@ -241,7 +247,7 @@ impl Counts {
     /// Prints all counts; true if none is zero.
     pub fn report(&self) -> bool {
         let mut missing = Vec::new();
-        for (group, names) in NEEDED.iter().chain(tables::NEEDED) {
+        for (group, names) in NEEDED.iter().chain(tables::NEEDED).chain(host::NEEDED) {
             println!("{group}:");
             for name in *names {
                 let count = self.count[*name];
@@ -287,6 +293,7 @@ impl Counts {
             ("29: DTYPEs but 011", &self.data_types),
             ("29: reserved bits 28:16", &self.reserved_bits),
         ];
+        sets.extend(self.host.all());
         let rows: Vec<String> = WAYS.iter().map(|way| format!("{way}: rows about 1, 8, 16, 32 and 64 bytes, and longer")).collect();
         sets.extend(rows.iter().zip(&self.row_lengths).map(|(name, set)| (name.as_str(), &set[..])));
         for (name, set) in sets {
@@ -307,15 +314,19 @@ impl Counts {
         self.hit(&number.to_string());
         self.follow.refused();
         let header = ring[before.read as usize];
-        if model::is_table_load(header) {
-            self.refused_table_load(before, ring, number);
+        if model::is_data(header) {
+            self.host.refused(before, ring, number);
+        }
+        if model::data_wanted(before) || model::is_data(header) {
+            let kinds = self.pictures.refuse(before, ring, number);
+            self.hit_all(kinds);
             return;
         }
+        self.pictures.refused();
         let kind = match model::kind_of(header) {
             Some(kind) => kind,
             None => {
-                self.hit("21 kind 11");
-                self.hit_if(model::waiting(before) < 14, "21 before the command is whole");
+                self.refused_table_load(before, ring, number);
                 return;
             }
         };
@@ -328,6 +339,9 @@ impl Counts {
         };
         if number >= 27 && blt && model::x_negative(&r) {
             self.refused_back(&r, before.frame_len, number);
+        }
+        if number >= 23 && blt {
+            self.hit_all(host::refused_blt(&r, number));
         }
         match number {
             21 => {
@@ -402,6 +416,8 @@ impl Counts {
 
     fn loaded_command(&mut self, before: &State, ring: &[u32], frame: &[u8], after: &State) {
         let header = ring[before.read as usize];
+        let kinds = self.pictures.load(before, ring, after);
+        self.hit_all(kinds);
         if model::is_table_load(header) {
             let kinds = self.follow.load(before, ring, after);
             self.hit_all(kinds);
@@ -452,7 +468,25 @@ impl Counts {
         }
         self.hit_if(!enabled(RASTER_MODE), "kept RASTER_MODE");
         self.hit_if(!enabled(WID_HEIGHT), if blt { "kept WID_HEIGHT" } else { "kept VEC_LEN" });
-        self.drawing(kind, &after.registers, &after.table, frame);
+        if !model::data_wanted(after) {
+            self.drawing(kind, &after.registers, &after.table, frame);
+        }
+    }
+
+    /// A pixel of a BLT that is fed; the BLT is counted when it is its last.
+    fn fed_pixel(&mut self, before: &State, ring: &[u32], frame: &[u8], after: &State) {
+        let kinds = self.pictures.pixel(before, ring, after, frame.len() as i64);
+        self.hit_all(kinds);
+        if after.place.is_none() {
+            let (r, table) = (&before.registers, &before.table);
+            let kinds = self.follow.draw(Kind::Blt, r, table, frame.len() as i64);
+            self.hit_all(kinds);
+            self.host.drawn(r);
+            self.row_length(r);
+            for kind in short_ways::kinds(r, table, frame) {
+                self.hit(&short_ways::at_depth(r, &kind));
+            }
+        }
     }
 
     fn drawing(&mut self, kind: Kind, r: &Registers, table: &Table, frame: &[u8]) {
@@ -721,12 +755,7 @@ impl Counts {
     fn short_ways(&mut self, r: &Registers, table: &Table, frame: &[u8]) {
         let depth = model::bytes_per_pixel(r).unwrap_or(1);
         let way = short_ways::way(r);
-        let row = depth * model::width(r);
-        match ROW_LENGTHS.iter().position(|length| *length == row) {
-            Some(slot) => self.row_lengths[way][slot] += 1,
-            None if row > 65 => self.row_lengths[way][ROW_LENGTHS.len()] += 1,
-            None => {}
-        }
+        self.row_length(r);
         let kinds = short_ways::kinds(r, table, frame);
         self.overtakes = kinds.contains(&format!("{}: overtakes in a row", WAYS[way]));
         for kind in kinds {
@@ -750,6 +779,16 @@ impl Counts {
         count_bits(&mut self.blt_bits, code as usize, depth, asked);
         for (i, plain) in PLAIN.iter().enumerate().filter(|(i, _)| unlike[*i]) {
             self.neighbours[8 * i + (code ^ plain).trailing_zeros() as usize] += 1;
+        }
+    }
+
+    fn row_length(&mut self, r: &Registers) {
+        let way = short_ways::way(r);
+        let row = model::bytes_per_pixel(r).unwrap_or(1) * model::width(r);
+        match ROW_LENGTHS.iter().position(|length| *length == row) {
+            Some(slot) => self.row_lengths[way][slot] += 1,
+            None if row > 65 => self.row_lengths[way][ROW_LENGTHS.len()] += 1,
+            None => {}
         }
     }
 
@@ -790,10 +829,10 @@ fn count_bits(bits: &mut [[u64; 2_048]; 3], code: usize, depth: i64, asked: u32)
     }
 }
 
-/// The lines of W3's and W4's kinds: group, kind, and its names with depth and direction.
+/// The lines of W3's, W4's and W5's kinds: group, kind, and its names with depth and direction.
 fn lines() -> Vec<(&'static str, String, Vec<(String, String)>)> {
     let mut lines = Vec::new();
-    for each in short_ways::NEEDED.iter().chain(tables::EACH) {
+    for each in short_ways::NEEDED.iter().chain(tables::EACH).chain(host::EACH) {
         for of in each.of {
             for name in each.names {
                 lines.push((each.group, format!("{of} {name}"), each.line(of, name)));
@@ -801,15 +840,6 @@ fn lines() -> Vec<(&'static str, String, Vec<(String, String)>)> {
         }
     }
     lines
-}
-
-fn mode_name(r: &Registers) -> &'static str {
-    match model::source_mode(r) {
-        SourceMode::Colour => "colour",
-        SourceMode::Unpacked => "unpacked",
-        SourceMode::BytePacked => "byte-packed",
-        SourceMode::Undefined => "undefined",
-    }
 }
 
 /// False if the code gives the same for both source bits.
@@ -843,9 +873,9 @@ fn reasons_for_24(kind: Kind, r: &Registers) -> Vec<&'static str> {
     let faults = [!set(21), set(30), own != format, set(23), set(22), set(20), set(19), set(18)];
     let good_pattern = third && !faults.contains(&true);
     let reasons = [
-        (blt && mode == "undefined" && source_select != 0, "24 SM 11 with a source"),
+        (blt && mode == "undefined" && source_select & 1 != 0, "24 SM 11 with a source"),
         (blt && mode == "undefined" && source_select == 0, "24 SM 11 without a source"),
-        (blt && source_select > 1, "24 SR"),
+        (blt && source_select == 3, "24 SR 11"),
         (blt && pattern_mode == 3 && !third, "24 PM 11 of a BLT"),
         (blt && pattern_mode == 3 && third, "24 PM 11 under channel 3's pattern"),
         (!blt && pattern_mode == 1, "24 PM 01 of a vector"),
@@ -853,8 +883,8 @@ fn reasons_for_24(kind: Kind, r: &Registers) -> Vec<&'static str> {
         (!blt && pattern_mode == 3, "24 PM 11 of a vector"),
         (!blt && inversion, "24 SI of a vector"),
         (!blt && transparency, "24 ST of a vector"),
-        (blt && colour && inversion && source_select != 0, "24 SI on a colour source"),
-        (blt && colour && transparency && source_select != 0, "24 ST on a colour source"),
+        (blt && colour && inversion && source_select & 1 != 0, "24 SI on a colour source"),
+        (blt && colour && transparency && source_select & 1 != 0, "24 ST on a colour source"),
         (blt && colour && inversion && source_select == 0, "24 SI with SM 00 and no source"),
         (blt && colour && transparency && source_select == 0, "24 ST with SM 00 and no source"),
         (blt && pi && !colour_pattern, "24 PI of a BLT"),
@@ -877,41 +907,49 @@ fn reasons_for_24(kind: Kind, r: &Registers) -> Vec<&'static str> {
         (!blt && good_pattern, "24 channel 3's pattern of a vector"),
         (r[BASE_OFFSET] != 0, "24 BASE_OFFSET"),
     ];
-    reasons.into_iter().filter(|(holds, _)| *holds).map(|(_, name)| name).collect()
+    let host_alone = if blt { host::reasons_for_24(r) } else { Vec::new() };
+    reasons.into_iter().filter(|(holds, _)| *holds).map(|(_, name)| name).chain(host_alone).collect()
 }
 
-/// The write pointer stands inside a command: its header waits, its last word does not.
-fn ends_inside(state: &State, ring: &[u32]) -> bool {
+/// The header of the command inside which the write pointer stands: it waits, the command's last word does not.
+fn ends_inside(state: &State, ring: &[u32]) -> Option<u32> {
     let mut state = *state;
     while model::waiting(&state) > 0 {
         let header = model::ring_word(&state, ring, 0);
         let length = match model::kind_of(header) {
             Some(kind) => Some(model::command_length(kind)),
-            None => tables::known_length(&state, ring).filter(|_| model::is_table_load(header)),
+            None if model::is_data(header) => host::known_length(&state, ring),
+            None => tables::known_length(&state, ring),
         };
         match length {
-            Some(length) if model::waiting(&state) < length => return true,
+            Some(length) if model::waiting(&state) < length => return Some(header),
             Some(length) if !model::has_w(header) => state.read = (state.read + length) % state.ring_len,
-            Some(_) => return false,
-            None => return model::is_table_load(header) && model::waiting(&state) < 3,
+            Some(_) => return None,
+            None => return (model::waiting(&state) < if model::is_data(header) { 2 } else { 3 }).then_some(header),
         }
     }
-    false
+    None
 }
 
 impl Watch for Counts {
     fn unit(&mut self, before: &State, ring: &[u32], frame: &[u8], after: &State) {
         self.units += 1;
+        let wanted = model::data_wanted(before);
         if self.fresh {
             self.fresh = false;
-            if let Some(place) = before.place.filter(|place| place.kind == Kind::Blt) {
+            if let Some(place) = before.place.filter(|place| place.kind == Kind::Blt && !wanted) {
                 self.taken_up(&before.registers, &before.table, place.drawn);
             }
         }
-        if before.place.is_some() {
-            self.hit_if(after.place.is_none(), "retired by last pixel");
-        } else if after.stop != 0 {
+        if after.stop != 0 {
             self.refused_command(before, ring, after.stop);
+        } else if wanted {
+            self.pictures.accept(before, ring);
+        } else if let Some(place) = before.place {
+            self.hit_if(after.place.is_none(), "retired by last pixel");
+            if place.data != Data::Plain {
+                self.fed_pixel(before, ring, frame, after);
+            }
         } else {
             self.loaded_command(before, ring, frame, after);
         }
@@ -927,6 +965,7 @@ impl Watch for Counts {
                 self.hit_if(number == 6 && position == before.read, "refused 6 at the read position");
                 self.hit_if(number == 6 && before.stop != 0, "refused 6 while stopped");
             }
+            self.hit_while_data(before, number == 7, "7");
             return;
         }
         let drawing = before.place.is_some();
@@ -939,6 +978,7 @@ impl Watch for Counts {
             Call::Room => {
                 self.hit("room 0");
                 self.hit_if(drawing, "room while drawing");
+                self.hit_while_data(before, true, "room");
                 self.hit_if(stopped, "room while stopped");
             }
             Call::Restart => {
@@ -956,13 +996,18 @@ impl Watch for Counts {
                 self.hit_if(stopped && portion > 0, "publish while stopped");
                 self.hit_if(position < before.write, "publish past the ring's end");
                 self.hit_if(answer.room == 0, "ring full");
-                self.hit_if(portion > 0 && ends_inside(after, ring), "publish inside a command");
+                self.hit_while_data(before, portion > 0, "publish");
+                if let Some(header) = ends_inside(after, ring).filter(|_| portion > 0) {
+                    self.hit("publish inside a command");
+                    self.hit_if(model::is_data(header), "publish inside a data command");
+                }
             }
             Call::Run(budget) => self.run_answer(budget, before, ring, answer, after),
         }
     }
 
-    fn store(&mut self, state: &State, position: u32) {
+    fn store(&mut self, state: &State, ring: &[u32], position: u32) {
+        self.pictures.store(state, ring, position);
         let (first, length) = self.loaded;
         if state.place.is_some() && state.ring_len > 0 {
             let into = (position + state.ring_len - first) % state.ring_len;
@@ -972,6 +1017,12 @@ impl Watch for Counts {
 }
 
 impl Counts {
+    fn hit_while_data(&mut self, before: &State, condition: bool, name: &str) {
+        if let Some(when) = host::while_data(before).filter(|_| condition) {
+            self.hit(&format!("{name} {when}"));
+        }
+    }
+
     fn run_answer(&mut self, budget: u32, before: &State, ring: &[u32], answer: &Answer, after: &State) {
         self.hit_if(budget == 0, "budget 0");
         self.hit_if(budget == 1, "budget 1");
@@ -983,6 +1034,10 @@ impl Counts {
                 self.hit_if(used, "budget exactly used, waiting");
                 let waiting = model::waiting(after);
                 self.hit_if(answer.units == 0 && waiting == 0, "run on an empty ring");
+                if model::data_wanted(after) {
+                    self.hit_all(host::waits(after, ring, budget, used));
+                    return;
+                }
                 if waiting > 0 {
                     let header = ring[after.read as usize];
                     if model::is_table_load(header) {
@@ -1000,6 +1055,7 @@ impl Counts {
             }
             Word::Spent => {
                 self.hit("run spent");
+                self.hit_all(host::spent(after));
                 match after.place {
                     Some(place) => {
                         self.hit(if place.kind == Kind::Blt { "spent inside a BLT" } else { "spent inside a vector" });

@@ -5,6 +5,7 @@
 
 mod cases;
 mod counts;
+mod host;
 mod model;
 mod programs;
 #[cfg(test)]

@@ -1,7 +1,7 @@
-//! A second drawing engine, written from document 01 and requests W1, W2 and W4 of document 02, to be read beside them.
+//! A second drawing engine, written from document 01 and requests W1, W2, W4 and W5 of document 02, to be read beside them.
 //!
 //! It is slow on purpose: it works unit by unit, finds the bounds by going through every byte of every pixel, and does the raster
-//! operation bit by bit. The quotations are document 01's; W1's, W2's, W4's and the data book's (000) are named.
+//! operation bit by bit. The quotations are document 01's; W1's, W2's, W4's, W5's and the data book's (000) are named.
 
 // ---- Registers ------------------------------------------------------------------------------------------------------------------
 
@@ -45,7 +45,7 @@ pub const VECTOR_WORDS: [usize; 13] = [
     CH3_MODE_STR, BASE_OFFSET, VECTOR_MODE,
 ];
 
-/// The kinds that draw. A table load (kind 10) is no such command: see `is_table_load`.
+/// The kinds that draw. A table load (kind 10) and a data command (kind 11) are no such commands: see `is_table_load`, `is_data`.
 #[derive(Clone, Copy, PartialEq, Eq, Debug)]
 pub enum Kind {
     Blt,
@@ -77,11 +77,23 @@ fn signed16(value: u32) -> i64 {
 
 // ---- State and answers ----------------------------------------------------------------------------------------------------------
 
-/// "the place in a command being drawn": its kind and how many of its pixels are drawn; all else follows by its own steps.
+/// "the place in a command being drawn": its kind and how many of its pixels are drawn, and its data; all else follows by its own steps.
 #[derive(Clone, Copy, PartialEq, Eq, Debug)]
 pub struct Place {
     pub kind: Kind,
     pub drawn: i64,
+    pub data: Data,
+}
+
+/// W5: "Such a BLT takes its pixels from the data commands that follow".
+#[derive(Clone, Copy, PartialEq, Eq, Debug)]
+pub enum Data {
+    /// no data commands: a vector, or a BLT without host source
+    Plain,
+    /// a BLT that wants data, with no data command accepted
+    Wanted,
+    /// W5: "The state then holds that command's count and W", and how many of the BLT's words came before it
+    Fed { count: u32, w: bool, before: i64 },
 }
 
 /// "registers, two pointers, ring and frame lengths, completion number, stop number, and the place in a command being drawn, or none"; W4:
@@ -180,7 +192,7 @@ pub fn fit(state: &State) -> bool {
     if state.read >= state.ring_len || state.write >= state.ring_len {
         return false; // "a pointer not below ring size"
     }
-    if state.stop != 0 && !(21..=29).contains(&state.stop) {
+    if state.stop != 0 && !(21..=32).contains(&state.stop) {
         return false; // "a stop number that is neither 0 nor one of 21 and above in this table"
     }
     match state.place {
@@ -189,7 +201,34 @@ pub fn fit(state: &State) -> bool {
             state.stop == 0 // "a stop together with a command in progress"
                 && judge(place.kind, &state.registers, state.frame_len) == 0
                 && (0..pixel_count(place.kind, &state.registers)).contains(&place.drawn)
+                && data_fit(state, &place)
         }
+    }
+}
+
+/// W5: "Row 3 covers a place that no split of the BLT's words into data commands reaches, a count or W that 32 or 22 would refuse at the
+/// read pointer, and a data command whose words, with W also those up to the ring's end, don't all wait."
+fn data_fit(state: &State, place: &Place) -> bool {
+    let host = place.kind == Kind::Blt && host_source(&state.registers);
+    if place.data == Data::Plain {
+        return !host;
+    }
+    if !host {
+        return false;
+    }
+    let next = word_of_pixel(&state.registers, place.drawn);
+    match place.data {
+        // the words before it are used up
+        Data::Wanted => place.drawn == 0 || word_of_pixel(&state.registers, place.drawn - 1) != next,
+        Data::Fed { count, w, before } => {
+            let length = data_length(count);
+            0 <= before
+                && (before..before + i64::from(count)).contains(&next)
+                && data_count_good(state, count)
+                && !w_misplaced(state, w, length)
+                && whole(state, w, length)
+        }
+        Data::Plain => false,
     }
 }
 
@@ -272,31 +311,41 @@ pub enum Unit {
     Refuse(u32),
     Load(Kind),
     LoadTable,
+    AcceptData,
     Pixel,
 }
 
 /// The unit that a running engine would do now.
 pub fn next_unit(state: &State, ring: &[u32]) -> Unit {
-    if state.place.is_some() {
+    // a BLT that wants data is not drawn meanwhile
+    let wanted = data_wanted(state);
+    if state.place.is_some() && !wanted {
         return Unit::Pixel;
     }
     if waiting(state) == 0 {
         return Unit::None; // "Equal pointers mean empty."
     }
-    // "21 and 22 are judged as soon as the header waits"
+    // "21 and 22 are judged as soon as the header waits"; W5: "The order is 21, 30 and 31 when the header waits, these before every
+    // other number"
     let header = ring_word(state, ring, 0);
-    if is_table_load(header) {
-        return next_of_table_load(state, ring);
+    if header_faults(header) != 0 {
+        return Unit::Refuse(21);
+    }
+    if is_data(header) {
+        return if wanted { next_of_data(state, ring) } else { Unit::Refuse(31) }; // "31 for data that nobody wants"
+    }
+    if wanted {
+        return Unit::Refuse(30); // "30 for any other command while a BLT still wants data"
     }
     let kind = match kind_of(header) {
-        Some(kind) if reserved_bits(kind, header) == 0 => kind,
-        _ => return Unit::Refuse(21),
+        Some(kind) => kind,
+        None => return next_of_table_load(state, ring),
     };
     let length = command_length(kind);
-    if w_misplaced(state, header, length) {
+    if w_misplaced(state, has_w(header), length) {
         return Unit::Refuse(22);
     }
-    if !whole(state, header, length) {
+    if !whole(state, has_w(header), length) {
         return Unit::None;
     }
     // "23 to 28 only for commands that draw, on the registers as they would be after loading"
@@ -309,12 +358,13 @@ pub fn next_unit(state: &State, ring: &[u32]) -> Unit {
     Unit::Load(kind)
 }
 
+pub fn data_wanted(state: &State) -> bool {
+    state.place.is_some_and(|place| place.data == Data::Wanted)
+}
+
 /// The unit for a table load whose header waits.
 fn next_of_table_load(state: &State, ring: &[u32]) -> Unit {
     let header = ring_word(state, ring, 0);
-    if table_header_faults(header) != 0 {
-        return Unit::Refuse(21);
-    }
     // W4: "judged as soon as three words wait and before 22, which for this kind waits for them too"
     if waiting(state) < 3 {
         return Unit::None;
@@ -324,26 +374,47 @@ fn next_of_table_load(state: &State, ring: &[u32]) -> Unit {
         return Unit::Refuse(29);
     }
     let length = table_load_length(count_word);
-    if w_misplaced(state, header, length) {
+    if w_misplaced(state, has_w(header), length) {
         return Unit::Refuse(22);
     }
-    if !whole(state, header, length) {
+    if !whole(state, has_w(header), length) {
         return Unit::None;
     }
     Unit::LoadTable
 }
 
+/// The unit for a data command that is wanted, whose header waits.
+fn next_of_data(state: &State, ring: &[u32]) -> Unit {
+    let header = ring_word(state, ring, 0);
+    // W5: "32 when the count word waits, then 22, which for this kind waits for the count word"
+    if waiting(state) < 2 {
+        return Unit::None;
+    }
+    let count_word = ring_word(state, ring, 1);
+    if !data_word_good(state, count_word) {
+        return Unit::Refuse(32);
+    }
+    let length = data_length(data_count(count_word));
+    if w_misplaced(state, has_w(header), length) {
+        return Unit::Refuse(22);
+    }
+    if !whole(state, has_w(header), length) {
+        return Unit::None;
+    }
+    Unit::AcceptData
+}
+
 /// 22: "W on a command that begins at ring word 0, or whose words run across the end"
-fn w_misplaced(state: &State, header: u32, length: u32) -> bool {
-    has_w(header) && (state.read == 0 || state.read + length > state.ring_len)
+fn w_misplaced(state: &State, w: bool, length: u32) -> bool {
+    w && (state.read == 0 || state.read + length > state.ring_len)
 }
 
 /// "It is whole when all its words wait and, with W, when the words waiting also reach the ring's end."
-fn whole(state: &State, header: u32, length: u32) -> bool {
+fn whole(state: &State, w: bool, length: u32) -> bool {
     if waiting(state) < length {
         return false;
     }
-    if has_w(header) && waiting(state) < state.ring_len - state.read {
+    if w && waiting(state) < state.ring_len - state.read {
         return false;
     }
     true
@@ -352,15 +423,20 @@ fn whole(state: &State, header: u32, length: u32) -> bool {
 fn do_unit(state: &mut State, ring: &[u32], frame: &mut [u8], unit: Unit) {
     match unit {
         Unit::None => {}
-        // "Refusing a command costs one unit and moves nothing but the stop number"
-        Unit::Refuse(number) => state.stop = number,
+        // "Refusing a command costs one unit and moves nothing but the stop number"; W5: "Any stop while data is wanted abandons the BLT
+        // unretired."
+        Unit::Refuse(number) => {
+            state.stop = number;
+            state.place = None;
+        }
         // "Loading moves the read pointer and enabled registers."
         Unit::Load(kind) => {
             let header = ring_word(state, ring, 0);
             state.registers = registers_after(state, ring, kind);
-            pass(state, header, command_length(kind));
+            pass(state, has_w(header), command_length(kind));
             if draws(kind, header) {
-                state.place = Some(Place { kind, drawn: 0 });
+                let host = kind == Kind::Blt && host_source(&state.registers);
+                state.place = Some(Place { kind, drawn: 0, data: if host { Data::Wanted } else { Data::Plain } });
             } else {
                 retire(state); // "or by its load if it draws nothing"
             }
@@ -369,30 +445,69 @@ fn do_unit(state: &mut State, ring: &[u32], frame: &mut [u8], unit: Unit) {
         Unit::LoadTable => {
             let (header, count_word) = (ring_word(state, ring, 0), ring_word(state, ring, 2));
             (state.registers, state.table) = table_after(state, ring);
-            pass(state, header, table_load_length(count_word));
+            pass(state, has_w(header), table_load_length(count_word));
             retire(state); // it draws nothing
+        }
+        // W5: "Accepting a whole data command is one unit; its words stay waiting"; "Data commands don't raise the completion number."
+        Unit::AcceptData => {
+            let (w, count) = (has_w(ring_word(state, ring, 0)), data_count(ring_word(state, ring, 1)));
+            if let Some(place) = state.place {
+                let before = word_of_pixel(&state.registers, place.drawn);
+                state.place = Some(Place { data: Data::Fed { count, w, before }, ..place });
+            }
         }
         Unit::Pixel => {
             if let Some(place) = state.place {
                 match place.kind {
-                    Kind::Blt => draw_blt_pixel(&state.registers, &state.table, frame, place.drawn),
+                    Kind::Blt => {
+                        let word = word_that_feeds(state, ring, &place);
+                        draw_fed_pixel(&state.registers, &state.table, frame, place.drawn, word);
+                    }
                     Kind::Vector => draw_vector_pixel(&state.registers, frame, place.drawn),
                 }
                 let drawn = place.drawn + 1;
                 if drawn == pixel_count(place.kind, &state.registers) {
+                    pass_data(state, place.data); // W5: "Words left over at the last pixel are dropped."
                     state.place = None;
                     retire(state); // "A command is retired by its last pixel"
                 } else {
                     state.place = Some(Place { drawn, ..place });
+                    if data_used_up(&state.registers, drawn, place.data) {
+                        pass_data(state, place.data);
+                        state.place = Some(Place { drawn, data: Data::Wanted, ..place });
+                    }
                 }
             }
         }
     }
 }
 
+/// The next pixel lies in a word behind those of the data command.
+fn data_used_up(registers: &Registers, drawn: i64, data: Data) -> bool {
+    match data {
+        Data::Fed { count, before, .. } => word_of_pixel(registers, drawn) >= before + i64::from(count),
+        _ => false,
+    }
+}
+
+/// W5: "the read pointer passes it in the unit that draws the last pixel it feeds"
+fn pass_data(state: &mut State, data: Data) {
+    if let Data::Fed { count, w, .. } = data {
+        pass(state, w, data_length(count));
+    }
+}
+
+/// The data word that feeds the next pixel; of a BLT without host source, none is looked at.
+fn word_that_feeds(state: &State, ring: &[u32], place: &Place) -> u32 {
+    match place.data {
+        Data::Fed { before, .. } => ring_word(state, ring, data_length(0) + (word_of_pixel(&state.registers, place.drawn) - before) as u32),
+        _ => 0,
+    }
+}
+
 /// "After it, read moves past it, or to 0 with W"
-fn pass(state: &mut State, header: u32, length: u32) {
-    state.read = if has_w(header) {
+fn pass(state: &mut State, w: bool, length: u32) {
+    state.read = if w {
         0
     } else {
         modulo(i64::from(state.read) + i64::from(length), state.ring_len)
@@ -426,10 +541,12 @@ pub fn kind_of(header: u32) -> Option<Kind> {
 }
 
 /// "All other header bits are zero": those between S (bit 28) and the write enables.
-fn reserved_bits(kind: Kind, header: u32) -> u32 {
-    match kind {
-        Kind::Blt => field(header, 27, 16),
-        Kind::Vector => field(header, 27, 13),
+pub fn header_faults(header: u32) -> u32 {
+    match kind_of(header) {
+        Some(Kind::Blt) => field(header, 27, 16),
+        Some(Kind::Vector) => field(header, 27, 13),
+        None if is_data(header) => data_header_faults(header),
+        None => table_header_faults(header),
     }
 }
 
@@ -502,6 +619,34 @@ pub fn table_place(registers: &Registers) -> u32 {
     field(registers[LUT_INDEX], 8, 0)
 }
 
+// ---- Data commands --------------------------------------------------------------------------------------------------------------
+
+/// W5: "Carry kind 11 commands with DTYPE 000": header, count word, data (000, Table 6-11).
+pub fn is_data(header: u32) -> bool {
+    field(header, 30, 29) == 0b11
+}
+
+/// The header bits that must be zero. Bit 0, of the count word, and S (bit 28) have no effect.
+pub fn data_header_faults(header: u32) -> u32 {
+    field(header, 27, 1)
+}
+
+/// W5, 32 turned round: "a count of 0, a count above ring size less 3, a reserved bit or another DTYPE"
+pub fn data_word_good(state: &State, word: u32) -> bool {
+    let data_type = field(word, 31, 29);
+    let reserved = field(word, 28, 16);
+    data_type == 0b000 && reserved == 0 && data_count_good(state, data_count(word))
+}
+
+fn data_count_good(state: &State, count: u32) -> bool {
+    (1..=state.ring_len - 3).contains(&count)
+}
+
+/// Header and count word, then the data.
+pub fn data_length(count: u32) -> u32 {
+    2 + count
+}
+
 // ---- Judging --------------------------------------------------------------------------------------------------------------------
 
 /// "The colour format is a decision over all sixteen codes"
@@ -535,7 +680,7 @@ pub fn judge(kind: Kind, registers: &Registers, frame_len: u32) -> u32 {
         Kind::Blt => {
             // W4: 24 stops covering "a BLT's colour pattern", code 10; code 11 is not carried, under channel 3's pattern neither
             let source_select = field(mode, 1, 0);
-            if source_select > 1 || pattern_mode == 0b11 {
+            if source_select == 0b11 || pattern_mode == 0b11 {
                 return 24;
             }
             // W1: "keeps pattern inversion, and both source bits on vectors and colour modes, and takes mono from frame memory with
@@ -547,6 +692,10 @@ pub fn judge(kind: Kind, registers: &Registers, frame_len: u32) -> u32 {
                 SourceMode::Undefined => true,
             };
             if refused {
+                return 24;
+            }
+            // W5: 24 stops covering "host source unless a pixel would straddle two words"
+            if host_source(registers) && source_mode(registers) == SourceMode::Colour && some_pixel_straddles(registers, depth) {
                 return 24;
             }
             if channel_3(registers) && !channel_3_is_pattern(registers) {
@@ -633,8 +782,14 @@ pub fn height(registers: &Registers) -> i64 {
     i64::from(field(registers[WID_HEIGHT], 11, 0))
 }
 
+/// BLT_MODE's SR: the source is in frame memory
 pub fn source_selected(registers: &Registers) -> bool {
-    field(registers[BLT_MODE], 1, 0) == 1
+    field(registers[BLT_MODE], 1, 0) == 0b01
+}
+
+/// BLT_MODE's SR: the host sends the source
+pub fn host_source(registers: &Registers) -> bool {
+    field(registers[BLT_MODE], 1, 0) == 0b10
 }
 
 /// BLT_MODE's SM (000, 6.4.2.13).
@@ -763,6 +918,65 @@ pub fn blt_pixel(registers: &Registers, depth: i64, k: i64) -> BltPixel {
     }
 }
 
+// ---- A pixel sent by the host ---------------------------------------------------------------------------------------------------
+
+/// Where a source pixel lies among all data words that the BLT takes, counted from 0.
+pub struct HostPixel {
+    pub word: i64,
+    /// of that word, its lowest byte being 0 (000, 6.3.8.1: "the left-most pixels on the screen in the least significant bytes")
+    pub byte: i64,
+    /// of a mono source, the number of its bit in that byte
+    pub bit: i64,
+}
+
+/// 000, 6.3.8.2: "The two LSBs of the source OFFSET are used to determine the starting byte of the host source data"
+pub fn first_byte(registers: &Registers) -> i64 {
+    i64::from(field(registers[SRC_OFFSET], 1, 0))
+}
+
+/// Pixel number k. W5: "rows packed as 000 says, X and Y moving only the destination".
+pub fn host_pixel(registers: &Registers, depth: i64, k: i64) -> HostPixel {
+    let i = k % width(registers);
+    let j = k / width(registers);
+    let first = first_byte(registers);
+    // 000, 6.4.2.2: "XLSBSs are used to index into the first byte of every new line"
+    let row_bits = source_xlsbs(registers) + width(registers);
+    let from_row = source_xlsbs(registers) + i;
+    // 6.3.8.2, of unpacked mono and colour: "discards any data remaining in the DWORD after WIDTH pixels have been transferred and begins
+    // the next line at the byte specified by the two LSBs of the offset in the next DWORD received"
+    let in_words = |row_bytes: i64| j * 4 * ((first + row_bytes + 3) / 4) + first;
+    let at = match source_mode(registers) {
+        // 11 is refused
+        SourceMode::Colour | SourceMode::Undefined => in_words(width(registers) * depth) + i * depth,
+        SourceMode::Unpacked => in_words((row_bits + 7) / 8) + from_row / 8,
+        // of byte-packed mono: "skips the remaining bits in the byte plus the number specified in XLSBs, and begins the next line at that
+        // location"
+        SourceMode::BytePacked => first + j * ((row_bits + 7) / 8) + from_row / 8,
+    };
+    HostPixel { word: at / 4, byte: at % 4, bit: 7 - from_row % 8 }
+}
+
+/// The number of the data word that feeds pixel k.
+pub fn word_of_pixel(registers: &Registers, k: i64) -> i64 {
+    host_pixel(registers, bytes_per_pixel(registers).unwrap_or(1), k).word
+}
+
+/// W5: "a pixel would straddle two words"
+fn some_pixel_straddles(registers: &Registers, depth: i64) -> bool {
+    (0..pixel_count(Kind::Blt, registers)).any(|k| host_pixel(registers, depth, k).byte + depth > 4)
+}
+
+/// The colour at a pixel's place in its word; the bytes above the depth are not looked at.
+fn host_colour(word: u32, pixel: &HostPixel) -> u32 {
+    word >> (8 * pixel.byte)
+}
+
+pub fn host_bit(word: u32, pixel: &HostPixel) -> bool {
+    (word >> (8 * pixel.byte + pixel.bit)) & 1 == 1
+}
+
+// ---- Patterns, and drawing ------------------------------------------------------------------------------------------------------
+
 /// What a BLT's pattern is. W4: a colour pattern "by RASTER_MODE or, in place of any pattern there, by channel 3's pattern mode"
 #[derive(Clone, Copy, PartialEq, Eq, Debug)]
 pub enum Pattern {
@@ -810,18 +1024,28 @@ pub fn stored_bit(frame: &[u8], pixel: &BltPixel) -> bool {
     (frame[pixel.source as usize] >> pixel.source_bit) & 1 == 1
 }
 
-/// "Each pixel reads source, pattern and destination as memory then stands, and writes the destination."
+/// A pixel of a BLT without host source.
 pub fn draw_blt_pixel(registers: &Registers, table: &Table, frame: &mut [u8], k: i64) {
+    draw_fed_pixel(registers, table, frame, k, 0);
+}
+
+/// "Each pixel reads source, pattern and destination as memory then stands, and writes the destination." `word` is the data word that
+/// feeds it, if the host sends the source.
+fn draw_fed_pixel(registers: &Registers, table: &Table, frame: &mut [u8], k: i64, word: u32) {
     let raster = registers[RASTER_MODE];
     let depth = bytes_per_pixel(registers).unwrap_or(0);
     let pixel = blt_pixel(registers, depth, k);
-    let source = if !source_selected(registers) {
+    let host = host_source(registers);
+    let source = if !source_selected(registers) && !host {
         // "With no source selected the source value is SRC_COLOR_FG."; W1: "inversion and transparency do nothing"
         registers[SRC_COLOR_FG]
+    } else if host && source_mode(registers) == SourceMode::Colour {
+        host_colour(word, &host_pixel(registers, depth, k))
     } else if source_mode(registers) == SourceMode::Colour {
         read_pixel(frame, pixel.source, depth)
     } else {
-        let set = stored_bit(frame, &pixel) != source_inversion(registers);
+        let bit = if host { host_bit(word, &host_pixel(registers, depth, k)) } else { stored_bit(frame, &pixel) };
+        let set = bit != source_inversion(registers);
         if source_transparency(registers) && !set {
             return; // W1: "A transparent pixel (bit clear after inversion) writes nothing and costs its unit."
         }

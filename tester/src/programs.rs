@@ -7,7 +7,7 @@ pub trait Watch {
     /// frame memory as it is after the unit
     fn unit(&mut self, before: &State, ring: &[u32], frame: &[u8], after: &State);
     fn call(&mut self, call: Call, before: &State, ring: &[u32], answer: &Answer, after: &State);
-    fn store(&mut self, state: &State, position: u32);
+    fn store(&mut self, state: &State, ring: &[u32], position: u32);
 }
 
 #[derive(Clone, Copy, PartialEq, Eq)]
@@ -24,7 +24,7 @@ pub struct Nobody;
 impl Watch for Nobody {
     fn unit(&mut self, _: &State, _: &[u32], _: &[u8], _: &State) {}
     fn call(&mut self, _: Call, _: &State, _: &[u32], _: &Answer, _: &State) {}
-    fn store(&mut self, _: &State, _: u32) {}
+    fn store(&mut self, _: &State, _: &[u32], _: u32) {}
 }
 
 pub const BAD: &str = "recording=bad\n";
@@ -112,7 +112,7 @@ pub fn trace(input: &[u8], watch: &mut dyn Watch) -> String {
                     return out + BAD;
                 }
                 ring[a as usize] = b;
-                watch.store(&state, a);
+                watch.store(&state, &ring, a);
                 continue;
             }
             1 => ("publish", Call::Publish(a), model::publish(before, a)),

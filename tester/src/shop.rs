@@ -1,4 +1,4 @@
-//! Document 01's shop cases and its replay example, with rings of 1,024 words as W4 restates them, and cases of requests W1 to W4, asked of
+//! Document 01's shop cases and its replay example, with rings of 1,024 words as W4 restates them, and cases of requests W1 to W5, asked of
 //! the model. Run by `rustc --test`.
 
 use crate::model::*;
@@ -31,6 +31,11 @@ fn ring_with(at: usize, words: &[u32]) -> Vec<u32> {
 
 fn state_at(read: u32, write: u32, frame_len: u32) -> State {
     State { read, write, ring_len: RING as u32, frame_len, ..ZEROS }
+}
+
+/// In a BLT without host source.
+fn place_at(drawn: i64) -> Option<Place> {
+    Some(Place { kind: Kind::Blt, drawn, data: Data::Plain })
 }
 
 fn quiet_run(state: State, ring: &[u32], frame: &mut [u8], budget: u32) -> (State, Answer) {
@@ -115,7 +120,7 @@ fn font_registers(values: &[(usize, u32)]) -> Registers {
 
 /// Draws it: every pixel costs its unit and the last one retires it, transparent or not.
 fn draw_font(registers: Registers, frame: &mut [u8]) {
-    let state = State { registers, place: Some(Place { kind: Kind::Blt, drawn: 0 }), ..state_at(0, 0, frame.len() as u32) };
+    let state = State { registers, place: place_at(0), ..state_at(0, 0, frame.len() as u32) };
     let count = pixel_count(Kind::Blt, &registers) as u32;
     let (state, answer) = quiet_run(state, &[0; RING], frame, count - 1);
     assert_eq!((answer.word, answer.units, state.completion), (Word::Spent, count - 1, 0));
@@ -264,7 +269,7 @@ fn mono_and_28() {
                 (BLT_MODE, mode | FRAME_MEMORY),
             ]);
             assert_eq!(judge(Kind::Blt, &registers, frame_len), wanted);
-            let state = State { registers, place: Some(Place { kind: Kind::Blt, drawn: 0 }), ..state_at(0, 0, frame_len) };
+            let state = State { registers, place: place_at(0), ..state_at(0, 0, frame_len) };
             assert_eq!(fit(&state), wanted == 0);
             registers[RASTER_MODE] |= 8 << 28;
             assert_eq!(judge(Kind::Blt, &registers, frame_len), if width > 4 { 27 } else { wanted });
@@ -500,7 +505,6 @@ fn header_bits_of_a_table_load() {
             }
         }
     }
-    assert_eq!(first_unit(0, &[3 << 29 | 1, 0, 0], 3), Unit::Refuse(21)); // kind 11
 }
 
 #[test]
@@ -645,8 +649,7 @@ fn three_by_three(raster: u32, destination_bits: u32, channel_3: u32, its_bits: 
     ] {
         registers[register] = value;
     }
-    let place = Some(Place { kind: Kind::Blt, drawn: 0 });
-    let state = State { registers, place, table: counting_tile(), ..state_at(0, 0, 9) };
+    let state = State { registers, place: place_at(0), table: counting_tile(), ..state_at(0, 0, 9) };
     let mut frame = vec![0; 9];
     let (state, answer) = quiet_run(state, &[0; RING], &mut frame, u32::MAX);
     assert_eq!((answer.word, answer.units, state.completion), (Word::Waiting, 9, 1));
@@ -743,6 +746,518 @@ fn sources_under_a_colour_pattern() {
     assert_eq!(frame[..4], [0x22, 0, 0x44, 0x55]);
 }
 
+// ---- W5: pictures sent through the ring -----------------------------------------------------------------------------------------
+
+const HOST: u32 = 2;
+const DATA_COMMAND: u32 = 3 << 29;
+
+fn data(header: u32, words: &[u32]) -> Vec<u32> {
+    let mut command = vec![DATA_COMMAND | header, words.len() as u32];
+    command.extend(words);
+    command
+}
+
+/// A BLT with host source, and these data commands behind it, from this ring word on, on this frame memory: the state, the units, and
+/// how the run ended.
+fn send(at: u32, blt_words: &[u32], list: &[Vec<u32>], frame: &mut [u8]) -> (State, Answer) {
+    let words = [blt_words.to_vec(), list.concat()].concat();
+    let state = state_at(at, (at + words.len() as u32) % RING as u32, frame.len() as u32);
+    quiet_run(state, &ring_with(at as usize, &words), frame, u32::MAX)
+}
+
+fn host_blt(values: &[(usize, u32)]) -> Vec<u32> {
+    let mode = values.iter().find(|(register, _)| *register == BLT_MODE).map_or(0, |(_, mode)| *mode);
+    let values = [&[(BLT_MODE, mode | HOST)], values].concat();
+    blt(DRAWING_BLT, &values)
+}
+
+/// Bytes 1, 2, 3 and so on as words.
+fn counting_words(count: u32) -> Vec<u32> {
+    (0..count).map(|i| u32::from_le_bytes(std::array::from_fn(|byte| (4 * i) as u8 + byte as u8 + 1))).collect()
+}
+
+/// Three rows by CCh at each depth and from each first byte that 24 leaves: each row begins a new word.
+#[test]
+fn colour_rows() {
+    for (format, depth, first, width, row_words) in [
+        (0, 1, 0, 4, 1),
+        (0, 1, 1, 3, 1),
+        (0, 1, 1, 4, 2),
+        (0, 1, 3, 1, 1),
+        (0, 1, 3, 2, 2),
+        (0, 1, 3, 6, 3),
+        (6 << 28, 2, 0, 2, 1),
+        (6 << 28, 2, 0, 3, 2),
+        (6 << 28, 2, 2, 1, 1),
+        (6 << 28, 2, 2, 2, 2),
+        (6 << 28, 2, 1, 1, 1),
+        (8 << 28, 4, 0, 2, 2),
+    ] {
+        let row = (width * depth) as usize;
+        let values = [
+            (RASTER_MODE, format | 0xCC),
+            (SRC_OFFSET, 0xFFFF_FFFC | first), // its other bits do nothing to a colour source
+            (STRIDE, 9 << 16 | row as u32),
+            (WID_HEIGHT, width << 16 | 3),
+        ];
+        let mut wanted = Vec::new();
+        for j in 0..3 {
+            wanted.extend((0..row).map(|byte| (4 * row_words * j + first as usize + byte + 1) as u8));
+        }
+        let words = counting_words(3 * row_words as u32);
+        let mut frame = vec![0; 3 * row];
+        let (state, answer) = send(0, &host_blt(&values), &[data(1, &words)], &mut frame);
+        assert_eq!((answer.word, answer.units, state.completion), (Word::Waiting, 2 + 3 * width, 1));
+        assert_eq!((state.read, state.place), (state.write, None));
+        assert_eq!(frame, wanted);
+        // a word less: it wants data, and the last row's last word is not drawn
+        let mut frame = vec![0; 3 * row];
+        let (state, answer) = send(0, &host_blt(&values), &[data(1, &words[1..])], &mut frame);
+        assert_eq!((answer.word, state.read, state.completion), (Word::Waiting, state.write, 0));
+        assert!(data_wanted(&state));
+    }
+}
+
+/// 000's examples, OFFSET 0, XLSBS 2, WIDTH 8: a bit alone in the words sets the pixel that the table names, and no other.
+#[test]
+fn tables_6_23_and_6_24_by_the_host() {
+    for (mode, rows, row_bytes) in [(BYTE_PACKED, 6, 2), (UNPACKED, 3, 4)] {
+        for first in 0..4 {
+            for row in 0..rows {
+                for column in 0..8 {
+                    let (byte, bit) = [(0, 5), (0, 4), (0, 3), (0, 2), (0, 1), (0, 0), (1, 7), (1, 6)][column];
+                    // with the first byte 3 a row of two bytes goes into a second word
+                    let row_bytes = if mode == UNPACKED && first == 3 { 8 } else { row_bytes };
+                    let at = row * row_bytes + first + byte;
+                    let mut bytes = [0; 64];
+                    bytes[at] = 1 << bit;
+                    let words: Vec<u32> = (0..16).map(|i| u32::from_le_bytes(std::array::from_fn(|byte| bytes[4 * i + byte]))).collect();
+                    let values = [
+                        (RASTER_MODE, 0xCC),
+                        (SRC_OFFSET, 2 << 26 | first as u32),
+                        (STRIDE, 65_535 << 16 | 8),
+                        (WID_HEIGHT, 8 << 16 | rows as u32),
+                        (SRC_COLOR_FG, FG),
+                        (SRC_COLOR_BG, BG),
+                        (BLT_MODE, mode | X_NEGATIVE * u32::from(first == 1)),
+                        (DST_OFFSET, 7 * u32::from(first == 1)),
+                    ];
+                    let mut frame = vec![0; 8 * rows];
+                    let (state, _) = send(0, &host_blt(&values), &[data(1, &words)], &mut frame);
+                    assert_eq!((state.completion, state.read), (1, state.write));
+                    let mut wanted = vec![BG as u8; 8 * rows];
+                    let column = if first == 1 { 7 - column } else { column };
+                    wanted[8 * row + column] = FG as u8;
+                    assert_eq!(frame, wanted, "mode {mode:x}, first byte {first}, row {row}, column {column}");
+                }
+            }
+        }
+    }
+}
+
+/// Inversion and transparency as from frame memory, in all directions.
+#[test]
+fn host_inversion_and_transparency() {
+    let (f, b, d) = (FG as u8, BG as u8, 0x11);
+    for mode in [UNPACKED, BYTE_PACKED] {
+        for (bits, wanted) in [
+            (0, [f, b, f, f, b, f, b, b]),
+            (SI, [b, f, b, b, f, b, f, f]),
+            (ST, [f, d, f, f, d, f, d, d]),
+            (SI | ST, [d, f, d, d, f, d, f, f]),
+        ] {
+            for direction in DIRECTIONS {
+                let back = direction & X_NEGATIVE != 0;
+                let values = [
+                    (RASTER_MODE, bits | 0xCC),
+                    (DST_OFFSET, if back { 7 } else { 0 }),
+                    (WID_HEIGHT, 8 << 16 | 1),
+                    (SRC_COLOR_FG, FG),
+                    (SRC_COLOR_BG, BG),
+                    (BLT_MODE, mode | direction),
+                ];
+                let mut frame = [d; 8];
+                send(0, &host_blt(&values), &[data(0, &[0b1011_0100])], &mut frame);
+                if back {
+                    frame.reverse();
+                }
+                assert_eq!(frame, wanted);
+            }
+        }
+    }
+}
+
+/// Two rows of five bytes, from byte 0: in four words.
+fn two_rows_of_five() -> Vec<u32> {
+    host_blt(&[(RASTER_MODE, 0xCC), (STRIDE, 5), (WID_HEIGHT, 5 << 16 | 2)])
+}
+
+const FIVE_AND_FIVE: [u8; 10] = [1, 2, 3, 4, 5, 9, 10, 11, 12, 13];
+
+/// However the words are split into data commands, whatever is left over of the last one, and wherever in the ring.
+#[test]
+fn splits() {
+    let words = counting_words(7);
+    for cuts in 0..8 {
+        for left_over in 0..4 {
+            let mut list: Vec<Vec<u32>> = vec![vec![words[0]]];
+            for (i, word) in words.iter().enumerate().take(4 + left_over).skip(1) {
+                if i < 4 && cuts >> (i - 1) & 1 == 1 {
+                    list.push(Vec::new());
+                }
+                list.last_mut().unwrap().push(*word);
+            }
+            let commands: Vec<Vec<u32>> = list.iter().map(|words| data(1, words)).collect();
+            for at in [0, 100, 1_000, 1_005, 1_006, 1_007, 1_010, 1_023] {
+                let mut frame = [0; 10];
+                let (state, answer) = send(at, &two_rows_of_five(), &commands, &mut frame);
+                assert_eq!((answer.word, answer.units, state.completion), (Word::Waiting, 11 + list.len() as u32, 1));
+                assert_eq!((state.read, state.place, frame), (state.write, None, FIVE_AND_FIVE));
+            }
+        }
+    }
+}
+
+/// Unit by unit: read pointer, completion number and place.
+#[test]
+fn units_of_a_picture() {
+    let words = counting_words(5);
+    let list = [data(1, &words[..3]), data(1 << 28, &words[3..])].concat();
+    let ring = ring_with(0, &[two_rows_of_five(), list].concat());
+    let fed = |count, before| Data::Fed { count, w: false, before };
+    let mut wanted = vec![(17, 0, Data::Wanted), (17, 0, fed(3, 0))];
+    wanted.extend((1..9).map(|drawn| (17, drawn, fed(3, 0))));
+    wanted.extend([(22, 9, Data::Wanted), (22, 9, fed(2, 3))]);
+    let (mut state, mut frame) = (state_at(0, 26, 10), [0; 10]);
+    for (read, drawn, data) in wanted {
+        let answer;
+        (state, answer) = quiet_run(state, &ring, &mut frame, 1);
+        assert_eq!((answer.word, answer.units, answer.room), (Word::Spent, 1, 1_023 - (26 - read)));
+        assert_eq!((state.read, state.completion, state.place), (read, 0, Some(Place { kind: Kind::Blt, drawn, data })));
+        assert_eq!(restart(state).1.word, Word::Refused(7));
+        assert!(fit(&state));
+    }
+    let (state, answer) = quiet_run(state, &ring, &mut frame, 1);
+    assert_eq!((answer.word, state.read, state.completion, state.place), (Word::Waiting, 26, 1, None));
+    assert_eq!(frame, FIVE_AND_FIVE);
+}
+
+/// Header and count word are not read again; the words are read when their pixels are drawn.
+#[test]
+fn altered_while_fed() {
+    let words = counting_words(4);
+    let mut ring = ring_with(0, &[two_rows_of_five(), data(1, &words)].concat());
+    let mut frame = [0; 10];
+    let (state, _) = quiet_run(state_at(0, 23, 10), &ring, &mut frame, 3);
+    (ring[17], ring[18]) = (0xFFFF_FFFF, 0);
+    ring[20] = 0x77;
+    let (state, answer) = quiet_run(state, &ring, &mut frame, u32::MAX);
+    assert_eq!((answer.word, answer.units, state.read, state.completion), (Word::Waiting, 9, 23, 1));
+    assert_eq!(frame, [1, 2, 3, 4, 0x77, 9, 10, 11, 12, 13]);
+}
+
+#[test]
+fn waiting_for_data() {
+    // F0h too
+    for raster in [0xCC, 0xF0, 0xAA] {
+        let blt_words = host_blt(&[(RASTER_MODE, raster), (STRIDE, 5), (WID_HEIGHT, 5 << 16 | 2), (PAT_COLOR_0, 0x5A)]);
+        let ring = ring_with(0, &[blt_words, data(1, &counting_words(4))].concat());
+        let (mut state, mut frame) = (state_at(0, 17, 10), [0x33; 10]);
+        for write in 17..23 {
+            let answer;
+            (state, _) = publish(state, write);
+            (state, answer) = quiet_run(state, &ring, &mut frame, u32::MAX);
+            assert_eq!((answer.word, answer.units), (Word::Waiting, u32::from(write == 17)));
+            assert_eq!((state.read, state.completion, frame), (17, 0, [0x33; 10]));
+            assert!(data_wanted(&state));
+        }
+        let (state, answer) = quiet_run(publish(state, 23).0, &ring, &mut frame, u32::MAX);
+        assert_eq!((answer.word, answer.units, state.read, state.completion), (Word::Waiting, 11, 23, 1));
+        let wanted = match raster {
+            0xCC => FIVE_AND_FIVE,
+            0xF0 => [0x5A; 10],
+            _ => [0x33; 10],
+        };
+        assert_eq!(frame, wanted);
+    }
+}
+
+#[test]
+fn w_on_a_data_command() {
+    // in the middle of the picture: the rest at ring word 0
+    let words = counting_words(6);
+    let mut ring = ring_with(100, &[two_rows_of_five(), data(W | 1, &words[..2])].concat());
+    let rest = data(1, &words[2..4]);
+    ring[..rest.len()].copy_from_slice(&rest);
+    let mut frame = [0; 10];
+    for write in 121..1_024 {
+        let (state, answer) = quiet_run(state_at(100, write, 10), &ring, &mut frame, u32::MAX);
+        assert_eq!((answer.word, answer.units, state.read), (Word::Waiting, 1, 117));
+    }
+    let (state, answer) = quiet_run(state_at(100, 0, 10), &ring, &mut frame, 6);
+    assert_eq!((answer.word, state.read), (Word::Spent, 117));
+    let (state, answer) = quiet_run(state, &ring, &mut frame, 1);
+    assert_eq!((answer.word, state.read, data_wanted(&state)), (Word::Waiting, 0, true));
+    let (state, answer) = quiet_run(publish(state, 4).0, &ring, &mut frame, u32::MAX);
+    assert_eq!((answer.word, answer.units, state.read, state.completion), (Word::Waiting, 6, 4, 1));
+    assert_eq!(frame, FIVE_AND_FIVE);
+
+    // 22: at ring word 0 with two words, not with one; across the end; up to the end it is good
+    let wanted_at = |read: u32, waiting: u32| State {
+        registers: after_blt().registers,
+        place: Some(Place { kind: Kind::Blt, drawn: 0, data: Data::Wanted }),
+        ..state_at(read, (read + waiting) % RING as u32, 10)
+    };
+    for (at, unit) in [(0, Unit::Refuse(22)), (1_018, Unit::AcceptData), (1_019, Unit::Refuse(22)), (1_023, Unit::Refuse(22))] {
+        let ring = ring_with(at as usize, &data(W, &words[..4]));
+        assert_eq!(next_unit(&wanted_at(at, 1), &ring), Unit::None);
+        assert_eq!(next_unit(&wanted_at(at, 2), &ring), if unit == Unit::AcceptData { Unit::None } else { unit });
+        assert_eq!(next_unit(&wanted_at(at, 6), &ring), unit);
+        // 32 comes first
+        let mut bad = ring.clone();
+        bad[(at as usize + 1) % RING] = 0;
+        assert_eq!(next_unit(&wanted_at(at, 1), &bad), Unit::None);
+        assert_eq!(next_unit(&wanted_at(at, 2), &bad), Unit::Refuse(32));
+    }
+}
+
+/// The state with the BLT of two rows loaded, at ring word 17, which wants data.
+fn after_blt() -> State {
+    quiet_run(state_at(0, 17, 10), &ring_with(0, &two_rows_of_five()), &mut [0; 10], 1).0
+}
+
+#[test]
+fn count_words_of_data() {
+    let judged = |count_word: u32, waiting: u32| {
+        let ring = ring_with(17, &[DATA_COMMAND | 1, count_word, 0, 0]);
+        next_unit(&State { write: (17 + waiting) % RING as u32, ..after_blt() }, &ring)
+    };
+    for (count, wanted) in [
+        (0, Unit::Refuse(32)),
+        (1, Unit::None),
+        (1_021, Unit::None),
+        (1_022, Unit::Refuse(32)),
+        (1_023, Unit::Refuse(32)),
+        (0xFFFF, Unit::Refuse(32)),
+    ] {
+        assert_eq!((judged(count, 1), judged(count, 2)), (Unit::None, wanted));
+    }
+    // whole when the ring is full
+    assert_eq!((judged(1_021, 1_022), judged(1_021, 1_023)), (Unit::None, Unit::AcceptData));
+    for data_type in 0..8 {
+        assert_eq!(judged(data_type << 29 | 1, 3), if data_type == 0 { Unit::AcceptData } else { Unit::Refuse(32) });
+    }
+    for bit in 16..29 {
+        assert_eq!(judged(1 << bit | 1, 2), Unit::Refuse(32));
+    }
+}
+
+/// 21, 30 and 31 by the header alone, before every other number.
+#[test]
+fn headers_around_data() {
+    let (wanted, idle) = (State { write: 18, ..after_blt() }, state_at(17, 18, 10));
+    let unit = |state: &State, header: u32| next_unit(state, &ring_with(17, &[header]));
+    for w in [0, W] {
+        for s in [0, 1 << 28] {
+            // bit 0 and S do nothing
+            for bit in [0, 1] {
+                assert_eq!(unit(&wanted, DATA_COMMAND | w | s | bit), Unit::None);
+                assert_eq!(unit(&idle, DATA_COMMAND | w | s | bit), Unit::Refuse(31));
+            }
+            for (kind, lowest) in [(0, 16), (1, 13), (2, 2), (3, 1)] {
+                for bit in 0..28 {
+                    let number = match (bit >= lowest, kind) {
+                        (true, _) => 21,
+                        (false, 3) => continue,
+                        _ => 30,
+                    };
+                    assert_eq!(unit(&wanted, kind << 29 | w | s | 1 << bit), Unit::Refuse(number));
+                }
+            }
+            for bit in 1..28 {
+                assert_eq!(unit(&idle, DATA_COMMAND | w | s | 1 << bit), Unit::Refuse(21));
+            }
+        }
+    }
+    // before 22, 29 and 32, with more words waiting and at ring word 0
+    let at_zero = |state: State| State { read: 0, write: 20, ..state };
+    for words in [fill(W | DRAWING_BLT, 99), table_load(W | INDEX, 0, 513), vec![1 << 29 | W, 0, 0]] {
+        assert_eq!(next_unit(&at_zero(wanted), &ring_with(0, &words)), Unit::Refuse(30));
+    }
+    assert_eq!(next_unit(&at_zero(idle), &ring_with(0, &[DATA_COMMAND | W, 0, 0])), Unit::Refuse(31));
+    // a vector with BLT_MODE's host source wants nothing
+    let mut words = vec![1 << 29 | 0x1FFF];
+    words.extend(VECTOR_WORDS.map(|register| if register == VEC_LEN { 1 << 16 } else { 0 }));
+    let state = State { read: 0, write: 14, place: None, ..after_blt() };
+    let (state, answer) = quiet_run(state, &ring_with(0, &words), &mut [0; 10], u32::MAX);
+    assert_eq!((answer.word, answer.units, state.completion), (Word::Waiting, 2, 1));
+}
+
+/// Any stop while data is wanted: the BLT is gone, not retired, nothing else moves; a restart goes on.
+#[test]
+fn abandoned() {
+    let words = counting_words(4);
+    for (bad, number) in [
+        (fill(DRAWING_BLT, 0), 30),
+        (fill(0, 0), 30),
+        (table_load(INDEX, 0, 1), 30),
+        (vec![DATA_COMMAND | 2], 21),
+        (vec![1 << 27], 21),
+        (vec![DATA_COMMAND, 1_022], 32),
+        (vec![DATA_COMMAND | W, 1_021], 22),
+    ] {
+        for sent in 0..4 {
+            let first = if sent == 0 { Vec::new() } else { data(1, &words[..sent]) };
+            let list = [two_rows_of_five(), first, bad.clone()].concat();
+            let ring = ring_with(0, &list);
+            let (mut frame, pixels) = ([0; 10], [0, 4, 5, 9][sent]);
+            let (state, answer) = quiet_run(state_at(0, list.len() as u32, 10), &ring, &mut frame, u32::MAX);
+            let units = 1 + u32::from(sent > 0) + pixels + 1;
+            assert_eq!((answer.word, answer.units, state.stop), (Word::Stopped, units, number));
+            assert_eq!((state.place, state.completion, state.read), (None, 0, (list.len() - bad.len()) as u32));
+            assert_eq!(frame[..pixels as usize], FIVE_AND_FIVE[..pixels as usize]);
+            assert_eq!(state.registers, after_blt().registers);
+            let state = restart(state).0;
+            assert_eq!((state.stop, state.read, state.place, fit(&state)), (0, state.write, None, true));
+            // the rest of the picture is data that nobody wants
+            let rest = State { read: 900, write: 903, ..state };
+            let (state, answer) = quiet_run(rest, &ring_with(900, &data(1, &words[..1])), &mut frame, u32::MAX);
+            assert_eq!((answer.word, state.stop, state.completion), (Word::Stopped, 31, 0));
+        }
+    }
+}
+
+#[test]
+fn host_and_24() {
+    let number = |raster: u32, first: u32, width: u32, mode: u32| {
+        let values = [(RASTER_MODE, raster), (SRC_OFFSET, 0xFF_FFF0 | first), (WID_HEIGHT, width << 16 | 1), (BLT_MODE, mode), (DST_OFFSET, 15)];
+        judge(Kind::Blt, &font_registers(&values), 32)
+    };
+    for (format, depth) in DEPTHS {
+        for first in 0..4 {
+            for width in 0..4 {
+                let straddles = match depth {
+                    1 => false,
+                    2 => first == 3 || first == 1 && width > 1,
+                    _ => first > 0,
+                };
+                let wanted = if width == 0 { 25 } else if straddles { 24 } else { 0 };
+                // F0h too; X and Y do nothing to it
+                for mode in DIRECTIONS {
+                    for code in [0xCC, 0xF0] {
+                        assert_eq!(number(format | code, first, width, HOST | mode), wanted);
+                        for mono in [UNPACKED, BYTE_PACKED] {
+                            for bits in [0, SI, ST, SI | ST] {
+                                assert_eq!(number(format | code | bits, first, width, HOST | mono | mode), if width == 0 { 25 } else { 0 });
+                            }
+                        }
+                    }
+                }
+            }
+            for mode in [0, UNPACKED, BYTE_PACKED, 3 << 6] {
+                assert_eq!(number(format | 0xCC, first, 1, mode | 3), 24);
+                assert_eq!(number(format | PI | 0xCC, first, 1, mode | HOST), 24);
+            }
+            assert_eq!(number(format | 0xCC, first, 1, 3 << 6 | HOST), 24);
+            for bits in [SI, ST, SI | ST] {
+                assert_eq!(number(format | bits | 0xCC, first, 1, HOST), 24);
+            }
+        }
+    }
+}
+
+/// Under each pattern: the host's pixels as a source like any other.
+#[test]
+fn patterns_under_host_source() {
+    let words = [0x0804_0201];
+    // code 96h: P, S and D exclusive or
+    for (raster, channel_3, pattern) in [
+        (0, 0, [0x71, 0x71, 0x71, 0x71]),
+        (1 << 8, 0, [0x71, 0x72, 0x71, 0x72]),
+        (COLOUR, 0, [10, 20, 30, 40]),
+        (1 << 8, CH3_PATTERN, [10, 20, 30, 40]),
+    ] {
+        let blt_words = host_blt(&[
+            (RASTER_MODE, raster | 0x96),
+            (WID_HEIGHT, 4 << 16 | 1),
+            (PAT_COLOR_0, 0x71),
+            (PAT_COLOR_1, 0x72),
+            (PAT_DATA_0, 0x55),
+            (CH3_MODE_STR, channel_3),
+        ]);
+        let load = vec![TABLE_LOAD | INDEX, 0x100, DATA | 1, 0x281E_140A];
+        let list = [load, blt_words, data(1, &words)].concat();
+        let mut frame = [0x80; 4];
+        assert_eq!(draw(&list, &mut frame), 0);
+        let wanted: [u8; 4] = std::array::from_fn(|i| 0x80 ^ pattern[i] ^ 1 << i);
+        assert_eq!(frame, wanted);
+    }
+}
+
+/// Row 3: places that some split of the words reaches, and the data command at the read pointer.
+#[test]
+fn row_3_of_data() {
+    let blt = after_blt();
+    let with = |drawn: i64, data: Data, read: u32, write: u32| State {
+        read,
+        write,
+        place: Some(Place { kind: Kind::Blt, drawn, data }),
+        ..blt
+    };
+    // words begin with pixels 0, 4, 5 and 9
+    for drawn in 0..12 {
+        let first = [0, 4, 5, 9].contains(&drawn);
+        assert_eq!(fit(&with(drawn, Data::Wanted, 17, 17)), first, "pixel {drawn}");
+    }
+    for drawn in 0..10 {
+        let word = [0, 0, 0, 0, 1, 2, 2, 2, 2, 3][drawn as usize];
+        for before in -1..5 {
+            for count in 1..6 {
+                let fits = 0 <= before && before <= word && word < before + i64::from(count);
+                assert_eq!(fit(&with(drawn, Data::Fed { count, w: false, before }, 17, 30)), fits);
+            }
+        }
+    }
+    let fed = |count, w, before| Data::Fed { count, w, before };
+    for (data, read, write, wanted) in [
+        // all its words wait
+        (fed(4, false, 0), 17, 23, true),
+        (fed(4, false, 0), 17, 22, false),
+        (fed(4, false, 0), 17, 17, false),
+        (fed(4, false, 0), 1_020, 2, true),
+        (fed(4, false, 0), 1_020, 1, false),
+        // with W up to the ring's end
+        (fed(4, true, 0), 17, 0, true),
+        (fed(4, true, 0), 17, 16, true),
+        (fed(4, true, 0), 17, 1_023, false),
+        // 22
+        (fed(4, true, 0), 0, 100, false),
+        (fed(4, true, 0), 1_018, 0, true),
+        (fed(4, true, 0), 1_019, 10, false),
+        // 32
+        (fed(0, false, 0), 17, 30, false),
+        (fed(1_021, false, 0), 17, 16, true),
+        (fed(1_022, false, 0), 17, 16, false),
+        (fed(u32::MAX - 2, false, 0), 17, 16, false),
+    ] {
+        assert_eq!(fit(&with(0, data, read, write)), wanted, "{data:?} {read} {write}");
+    }
+    // host source and the place go together
+    assert!(!fit(&with(0, Data::Plain, 17, 30)));
+    for select in [0, FRAME_MEMORY] {
+        let mut registers = blt.registers;
+        registers[BLT_MODE] = select;
+        registers[SRC_OFFSET] = 0;
+        for (data, wanted) in [(Data::Plain, true), (Data::Wanted, false), (fed(4, false, 0), false)] {
+            assert_eq!(fit(&State { registers, ..with(0, data, 17, 30) }), wanted);
+        }
+    }
+    // a stop with a place is unfit, and the calls say so
+    let stopped = State { stop: 30, ..with(0, Data::Wanted, 17, 17) };
+    assert_eq!(publish(stopped, 20).1.word, Word::Refused(3));
+    assert_eq!(restart(stopped).1.word, Word::Refused(3));
+}
+
 // ---- The ring and the programs --------------------------------------------------------------------------------------------------
 
 #[test]
@@ -811,9 +1326,9 @@ fn rows_1_to_4() {
     let drawing = |drawn| {
         let mut state = good;
         state.registers[WID_HEIGHT] = 4 << 16 | 1;
-        State { place: Some(Place { kind: Kind::Blt, drawn }), ..state }
+        State { place: place_at(drawn), ..state }
     };
-    assert!(fit(&good) && fit(&drawing(0)) && fit(&drawing(3)) && fit(&State { stop: 29, ..good }));
+    assert!(fit(&good) && fit(&drawing(0)) && fit(&drawing(3)) && fit(&State { stop: 32, ..good }));
     assert!(fit(&State { table: [u32::MAX; 512], ..drawing(3) }));
     let unfit = [
         ZEROS,
@@ -823,7 +1338,7 @@ fn rows_1_to_4() {
         State { read: 1_024, ..good },
         State { write: 1_024, ..good },
         State { stop: 20, ..good },
-        State { stop: 30, ..good },
+        State { stop: 33, ..good },
         State { stop: 21, ..drawing(0) },
         State { frame_len: 3, ..drawing(0) },
         drawing(4),

@@ -77,7 +77,7 @@ pub const NEEDED: &[Each] = &[
     },
     Each {
         group: "rows",
-        of: &["copy:", "other code:", "fill:", "XOR:", "mono pattern:", "colour pattern:", "sourceless:"],
+        of: &["copy:", "other code:", "fill:", "XOR:", "mono pattern:", "colour pattern:", "sourceless:", "host:"],
         bits: &[8, 16, 32],
         x: &["X+", "X-"],
         names: &[
@@ -119,11 +119,12 @@ pub fn at_depth(r: &Registers, name: &str) -> String {
 }
 
 /// The ways that BLTs may be drawn, each by a short way of its own or by none.
-pub const WAYS: [&str; 8] = ["copy", "other code", "text", "fill", "XOR", "mono pattern", "sourceless", "colour pattern"];
+pub const WAYS: [&str; 9] = ["copy", "other code", "text", "fill", "XOR", "mono pattern", "sourceless", "colour pattern", "host"];
 pub const OTHER_CODE: usize = 1;
 pub const TEXT: usize = 2;
 pub const MONO_PATTERN: usize = 5;
 pub const COLOUR_PATTERN: usize = 7;
+pub const HOST: usize = 8;
 
 /// Rows of these many bytes, and longer ones, must come up for each way.
 pub const ROW_LENGTHS: [i64; 13] = [1, 7, 8, 9, 15, 16, 17, 31, 32, 33, 63, 64, 65];
@@ -148,6 +149,7 @@ pub fn way(r: &Registers) -> usize {
     let code = field(r[RASTER_MODE], 7, 0);
     let (mono, transparent) = pattern_bits(r);
     match model::source_mode(r) {
+        _ if model::host_source(r) => HOST,
         SourceMode::Colour if model::source_selected(r) && reads_source(r) => usize::from(code != 0xCC || transparent),
         SourceMode::Unpacked | SourceMode::BytePacked if model::source_selected(r) => TEXT,
         _ if transparent || mono && reads_pattern(r) => MONO_PATTERN,
@@ -228,6 +230,7 @@ pub fn many_colours(r: &Registers, table: &Table) -> bool {
 fn plain_code(r: &Registers, table: &Table, kinds: &mut BTreeSet<String>) {
     let code = field(r[RASTER_MODE], 7, 0);
     let source = match (model::source_selected(r), model::source_mode(r)) {
+        _ if model::host_source(r) => return,
         (false, _) => "no",
         (true, SourceMode::Colour) => "a colour",
         _ => return,
@@ -375,7 +378,7 @@ fn colour_source(r: &Registers, table: &Table, frame: &[u8], name: &str, kinds: 
     }
 }
 
-/// Pattern, source and destination of a BLT's pixel, as memory then stands; none for a transparent one.
+/// Pattern, source and destination of a pixel of a BLT without host source, as memory then stands; none for a transparent one.
 pub fn operands(r: &Registers, table: &Table, frame: &[u8], k: i64) -> Option<[u32; 3]> {
     let depth = model::bytes_per_pixel(r).unwrap_or(1);
     let pixel = model::blt_pixel(r, depth, k);

@@ -366,7 +366,7 @@ fn at_each_depth(r: &Registers) -> Vec<&'static str> {
     let kinds = [
         (height > 1 && !model::y_negative(r), "Y+"),
         (height > 1 && model::y_negative(r), "Y-"),
-        (!selected, "no source"),
+        (!selected && !model::host_source(r), "no source"),
         (selected && source == SourceMode::Colour, "a colour source"),
         (transparent, "PT set"),
         (corner, "row 7, column 7"),
