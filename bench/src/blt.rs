@@ -3,6 +3,7 @@
 use crate::engine::{bad_both, depth_of, Registers, Table};
 use crate::engine::{BLT_MODE, CH3_MODE_STR, CH3_OFFSET, DST_OFFSET, PAT_COLOR_0, PAT_COLOR_1, PAT_DATA_0, PAT_DATA_1};
 use crate::engine::{RASTER_MODE, SRC_COLOR_BG, SRC_COLOR_FG, SRC_OFFSET, STRIDE, WID_HEIGHT};
+use crate::host::{self, Layout};
 use crate::order::{self, Pair};
 use crate::raster::{self, Flat, FlatTile, Operation, Rop, RopTile, Tile};
 use crate::text::{self, Font, Inks};
@@ -10,8 +11,8 @@ use crate::text::{self, Font, Inks};
 /// Rows of bytes in frame memory: where the first one begins, and the way to the next.
 #[derive(Clone, Copy)]
 pub struct Rows {
-    first: usize,
-    step: isize,
+    pub first: usize,
+    pub step: isize,
 }
 
 impl Rows {
@@ -28,17 +29,19 @@ pub enum Source {
     Color,
     Frame(Rows),
     Bits(Font),
+    /// Comes through the ring.
+    Host(Layout),
 }
 
 #[derive(Clone, Copy)]
 pub enum Pattern {
     Solid,
     Mono,
-    /// Of the table; the word's high bits are the row and the column of the first pixel.
-    Color(u32),
+    /// Of the table.
+    Color,
 }
 
-pub struct Blt {
+pub struct Blt<'a> {
     pub width: usize,
     pub height: usize,
     pub depth: usize,
@@ -47,18 +50,22 @@ pub struct Blt {
     pub up: bool,
     pub to: Rows,
     pub source: Source,
+    /// The bytes that a source is read from, if not from frame memory: they came through the ring.
+    pub data: Option<&'a [u8]>,
     pub pattern: Pattern,
+    /// The pattern's row and column of the first pixel, in the high bits.
+    pub place: u32,
 }
 
-impl Blt {
+impl Blt<'static> {
     /// The BLT that the registers describe, or the number that refuses it.
     #[inline]
-    pub fn judged(r: &Registers, frame: usize) -> Result<Blt, u32> {
+    pub fn judged(r: &Registers, frame: usize) -> Result<Blt<'static>, u32> {
         let depth = depth_of(r[RASTER_MODE])?;
         let mode = r[BLT_MODE];
         let (left, up) = (mode & 0x200 != 0, mode & 0x100 != 0);
-        let pattern = pattern_of(r).ok_or(24u32)?;
-        if bad_source(r[RASTER_MODE], mode) || bad_both(r) {
+        let (pattern, place) = pattern_of(r).ok_or(24u32)?;
+        if bad_source(r[RASTER_MODE], mode) || bad_both(r) || mode & 0xC3 == 2 && host::straddles(r, depth) {
             return Err(24);
         }
         let (width, height) = ((r[WID_HEIGHT] >> 16 & 0xFFF) as usize, (r[WID_HEIGHT] & 0xFFF) as usize);
@@ -69,6 +76,8 @@ impl Blt {
         let to = bounds.rows(r[DST_OFFSET], r[STRIDE] & 0xFFFF).ok_or(27u32)?;
         let source = if mode & 3 == 0 {
             Source::Color
+        } else if mode & 3 == 2 {
+            Source::Host(Layout::of(r, width, depth))
         } else if mode & 0xC0 == 0 {
             Source::Frame(bounds.rows(r[SRC_OFFSET], r[STRIDE] >> 16).ok_or(28u32)?)
         } else {
@@ -78,26 +87,39 @@ impl Blt {
             let rows = Bounds { bytes, ..bounds }.rows(r[SRC_OFFSET], stride).ok_or(28u32)?;
             Source::Bits(Font { rows, skip, bytes })
         };
-        Ok(Blt { width, height, depth, left, up, to, source, pattern })
+        Ok(Blt { width, height, depth, left, up, to, source, data: None, pattern, place })
+    }
+
+    /// A rectangle of it as a BLT of its own: from a column and a row on, in the order of drawing.
+    #[inline]
+    pub fn part(&self, column: usize, row: usize, width: usize, height: usize) -> Blt<'static> {
+        let skipped = if self.left { self.width - column - width } else { column };
+        let to = Rows { first: self.to.at(row) + skipped * self.depth, step: self.to.step };
+        let moved = |shift: u32, steps: usize, back: bool| {
+            let steps = if back { steps.wrapping_neg() } else { steps } as u32;
+            (self.place >> shift).wrapping_add(steps) % 8 << shift
+        };
+        let place = moved(26, column, self.left) | moved(29, row, self.up);
+        Blt { width, height, to, place, ..*self }
     }
 }
 
-/// The pattern, channel 3's in place of RASTER_MODE's, if it is one that is carried.
+/// The pattern, channel 3's in place of RASTER_MODE's, if it is one that is carried; and its place.
 #[inline]
-fn pattern_of(r: &Registers) -> Option<Pattern> {
+fn pattern_of(r: &Registers) -> Option<(Pattern, u32)> {
     let (raster, channel) = (r[RASTER_MODE], r[CH3_MODE_STR]);
     let pattern = match raster >> 8 & 3 {
         0 => Pattern::Solid,
         1 => Pattern::Mono,
-        2 => Pattern::Color(r[DST_OFFSET]),
+        2 => Pattern::Color,
         _ => return None,
     };
     if channel >> 31 == 0 {
-        return Some(pattern);
+        return Some((pattern, r[DST_OFFSET]));
     }
     // of the mode bits pattern mode alone, and the same format
     let good = channel & 0x40FC_0000 == 0x0020_0000 && channel >> 24 & 15 == raster >> 28;
-    good.then_some(Pattern::Color(r[CH3_OFFSET]))
+    good.then_some((Pattern::Color, r[CH3_OFFSET]))
 }
 
 /// 24 by a source: its mode, its select, a mono source that goes back, and the source bits with a colour mode.
@@ -105,7 +127,7 @@ fn pattern_of(r: &Registers) -> Option<Pattern> {
 fn bad_source(raster: u32, mode: u32) -> bool {
     let (select, kind) = (mode & 3, mode >> 6 & 3);
     kind == 3
-        || select > 1
+        || select == 3
         || select == 1 && (kind != 0 && mode & 0x200 != 0 || kind == 2 && mode & 0x100 != 0)
         || kind == 0 && raster & 0x2800 != 0
 }
@@ -144,7 +166,7 @@ pub fn draw(frame: &mut [u8], b: &Blt, r: &Registers, table: &Table) {
         (Source::Bits(font), Pattern::Mono) => draw_text_mono(frame, b, r, font),
         (_, Pattern::Solid) => draw_solid(frame, b, r),
         (_, Pattern::Mono) => draw_mono(frame, b, r),
-        (source, Pattern::Color(place)) => draw_color(frame, b, r, source, &Colors { table, place }),
+        (source, Pattern::Color) => draw_color(frame, b, r, source, table),
     }
 }
 
@@ -198,7 +220,7 @@ fn change(frame: &mut [u8], b: &Blt, f: Flat) {
 
 // ---- colour sources
 
-impl Blt {
+impl Blt<'_> {
     /// Row j and its source.
     #[inline]
     fn pair(&self, from: Rows, j: usize) -> Pair {
@@ -210,7 +232,9 @@ impl Blt {
 fn copy(frame: &mut [u8], b: &Blt, from: Rows) {
     for j in 0..b.height {
         let pair = b.pair(from, j);
-        if pair.smears() {
+        if let Some(data) = b.data {
+            frame[pair.to..pair.to + pair.bytes].copy_from_slice(&data[pair.from..pair.from + pair.bytes]);
+        } else if pair.smears() {
             order::copy(frame, b.depth, pair);
         } else {
             frame.copy_within(pair.from..pair.from + pair.bytes, pair.to);
@@ -225,7 +249,9 @@ fn combine<O: Operation>(frame: &mut [u8], b: &Blt, from: Rows, operation: impl 
         let pair = b.pair(from, j);
         let Pair { from, to, bytes, .. } = pair;
         let o = operation(j);
-        if from + bytes <= to {
+        if let Some(data) = b.data {
+            raster::combine(&mut frame[to..to + bytes], &data[from..from + bytes], &o);
+        } else if from + bytes <= to {
             let (low, high) = frame.split_at_mut(to);
             raster::combine(&mut high[..bytes], &low[from..from + bytes], &o);
         } else if to + bytes <= from {
@@ -284,13 +310,20 @@ fn combine_tiles(frame: &mut [u8], pair: Pair, o: &impl Operation) {
 
 // ---- mono patterns
 
+/// The pattern's row that row j gets, and the column at its lowest byte.
+#[inline]
+fn pattern_place(b: &Blt, j: usize) -> (usize, u32) {
+    let (x, y) = (b.place >> 26, (b.place >> 29) as usize);
+    let row = if b.up { y.wrapping_sub(j) } else { y + j } & 7;
+    let column = if b.left { x.wrapping_sub(b.width as u32 - 1) } else { x } & 7;
+    (row, column)
+}
+
 /// The bits of the pattern row that row j gets, from its lowest byte on, as a mask.
 #[inline]
 fn pattern_mask(b: &Blt, r: &Registers, j: usize) -> Tile {
     let data = r[PAT_DATA_0] as u64 | (r[PAT_DATA_1] as u64) << 32;
-    let (x, y) = (r[DST_OFFSET] >> 26, (r[DST_OFFSET] >> 29) as usize);
-    let row = if b.up { y.wrapping_sub(j) } else { y + j } & 7;
-    let column = if b.left { x.wrapping_sub(b.width as u32 - 1) } else { x } & 7;
+    let (row, column) = pattern_place(b, j);
     raster::spread(b.depth, ((data >> (8 * row)) as u8).rotate_left(column))
 }
 
@@ -338,42 +371,32 @@ fn change_mono(frame: &mut [u8], b: &Blt, r: &Registers, clear: Flat, set: Flat)
 
 // ---- colour patterns
 
-/// A colour pattern: the table that holds it, and where in it the first pixel lies.
-struct Colors<'a> {
-    table: &'a Table,
-    place: u32,
-}
-
-impl Colors<'_> {
-    /// The pattern row that row j gets, from its lowest byte on.
-    #[inline]
-    fn row(&self, b: &Blt, j: usize) -> Tile {
-        let (x, y) = (self.place >> 26, (self.place >> 29) as usize);
-        let row = if b.up { y.wrapping_sub(j) } else { y + j } & 7;
-        let column = if b.left { x.wrapping_sub(b.width as u32 - 1) } else { x } & 7;
-        let words = &self.table[0x100 + 2 * b.depth * row..][..2 * b.depth];
-        match *words {
-            [w0, w1] => {
-                let eight = (w0 as u64 | (w1 as u64) << 32).rotate_right(8 * column);
-                std::array::from_fn(|i| (eight >> (32 * (i % 2))) as u32)
-            }
-            [w0, w1, w2, w3] => {
-                let [low, high] = [[w0, w1], [w2, w3]].map(|w| w[0] as u128 | (w[1] as u128) << 32);
-                let eight = (low | high << 64).rotate_right(16 * column);
-                std::array::from_fn(|i| (eight >> (32 * (i % 4))) as u32)
-            }
-            _ => std::array::from_fn(|i| words[(i + column as usize) % 8]),
+/// The row of a colour pattern that row j gets, from its lowest byte on.
+#[inline]
+fn color_row(table: &Table, b: &Blt, j: usize) -> Tile {
+    let (row, column) = pattern_place(b, j);
+    let words = &table[0x100 + 2 * b.depth * row..][..2 * b.depth];
+    match *words {
+        [w0, w1] => {
+            let eight = (w0 as u64 | (w1 as u64) << 32).rotate_right(8 * column);
+            std::array::from_fn(|i| (eight >> (32 * (i % 2))) as u32)
         }
+        [w0, w1, w2, w3] => {
+            let [low, high] = [[w0, w1], [w2, w3]].map(|w| w[0] as u128 | (w[1] as u128) << 32);
+            let eight = (low | high << 64).rotate_right(16 * column);
+            std::array::from_fn(|i| (eight >> (32 * (i % 4))) as u32)
+        }
+        _ => std::array::from_fn(|i| words[(i + column as usize) % 8]),
     }
 }
 
 #[inline(never)]
-fn draw_color(frame: &mut [u8], b: &Blt, r: &Registers, source: Source, colors: &Colors) {
+fn draw_color(frame: &mut [u8], b: &Blt, r: &Registers, source: Source, table: &Table) {
     let code = r[RASTER_MODE];
     match source {
         Source::Bits(font) if raster::reads_pattern(code) => {
             for j in 0..b.height {
-                let inks = colors.row(b, j).map(|pattern| inks(b, r, pattern));
+                let inks = color_row(table, b, j).map(|pattern| inks(b, r, pattern));
                 let tiles =
                     Inks { clear: FlatTile::from(inks.map(|i| i.clear)), set: FlatTile::from(inks.map(|i| i.set)) };
                 text::draw_tiles(frame, b, font, j, tiles);
@@ -381,11 +404,13 @@ fn draw_color(frame: &mut [u8], b: &Blt, r: &Registers, source: Source, colors: 
         }
         Source::Bits(font) => draw_text(frame, b, r, font),
         _ if !raster::reads_pattern(code) => draw_solid(frame, b, r),
-        Source::Frame(from) if raster::reads_source(code) => combine(frame, b, from, |j| RopTile::of(code, &colors.row(b, j))),
-        _ if code & 0xFF == 0xF0 => rows_by_tile(frame, b, |j| colors.row(b, j), raster::fill_tile),
+        Source::Frame(from) if raster::reads_source(code) => {
+            combine(frame, b, from, |j| RopTile::of(code, &color_row(table, b, j)))
+        }
+        _ if code & 0xFF == 0xF0 => rows_by_tile(frame, b, |j| color_row(table, b, j), raster::fill_tile),
         _ => {
             let source = raster::repeated(b.depth, r[SRC_COLOR_FG]);
-            rows_by_tile(frame, b, |j| FlatTile::of(code, &colors.row(b, j), source), raster::change_tile)
+            rows_by_tile(frame, b, |j| FlatTile::of(code, &color_row(table, b, j), source), raster::change_tile)
         }
     }
 }

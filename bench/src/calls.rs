@@ -28,14 +28,14 @@ const CALLS: [(&str, u8); 3] = [("room", 2), ("publish", 0), ("run of budget 0",
 const COUNT: usize = 1 << 14;
 
 /// A list of calls: kind, position and budget of each.
-struct List {
-    kinds: Vec<u8>,
-    positions: Vec<usize>,
-    budgets: Vec<u32>,
+pub struct List {
+    pub kinds: Vec<u8>,
+    pub positions: Vec<usize>,
+    pub budgets: Vec<u32>,
 }
 
 impl List {
-    fn new(calls: &[(u8, usize, u32)]) -> List {
+    pub fn new(calls: &[(u8, usize, u32)]) -> List {
         List {
             kinds: calls.iter().map(|c| c.0).collect(),
             positions: calls.iter().map(|c| c.1).collect(),
@@ -50,7 +50,7 @@ impl List {
 }
 
 /// Setup and a list of calls: the units, and the completion number.
-fn drive(ring: &[u32], frame: &mut [u8], list: &List) -> (u64, u32) {
+pub fn drive(ring: &[u32], frame: &mut [u8], list: &List) -> (u64, u32) {
     let mut retired = 0;
     // The archive's function takes five runs, each as a pointer and a length, and touches nothing else but the number.
     let units = unsafe {

@@ -1,7 +1,10 @@
 //! A plain engine: it reads the ring words that the measured engine reads, judges them by the same rules and paints frame memory.
-//! Safe Rust, written for speed, without proofs. It draws each command whole: a run has no budget.
+//! Safe Rust, written for speed, without proofs. It draws each command whole, and of a picture through the ring all that a data
+//! command feeds: a run has no budget.
 
-use crate::blt::{self, Blt};
+use crate::blt::{self, Blt, Source};
+use crate::calls::List;
+use crate::host::Host;
 use crate::vector::{self, Vector};
 
 pub type Registers = [u32; 17];
@@ -38,6 +41,13 @@ pub struct Told {
     pub number: u32,
 }
 
+impl Told {
+    #[inline]
+    fn and(self, units: u32, retired: u32, number: u32) -> Told {
+        Told { units: self.units.wrapping_add(units), retired: self.retired.wrapping_add(retired), number }
+    }
+}
+
 /// The engine with its ring: what lies before `write` may be read.
 struct Engine<'a> {
     ring: &'a [u32],
@@ -47,38 +57,45 @@ struct Engine<'a> {
     table: Table,
     /// GP_LUT_INDEX: where the next load goes on.
     index: u32,
+    /// The BLT that wants data, if there is one.
+    wants: Option<Host>,
+    /// Room for the bytes of a data command.
+    bytes: Vec<u8>,
 }
 
 /// What the word at the read pointer leads to.
 enum Next {
     Waits,
     Refused(u32),
-    /// Loads this many units' worth, drawing included.
+    /// This many units, drawing included.
     Done(u32),
+    /// A BLT is loaded that takes its pixels from data commands.
+    Wants,
 }
 
 /// Setup, publishing and a run over all that waits.
 pub fn draw(ring: &[u32], frame: &mut [u8], write: usize) -> Told {
-    let mut told = Told::default();
-    told.number = bad_lengths(ring.len(), frame.len(), write);
-    if told.number != 0 {
-        return told;
+    let number = bad_lengths(ring.len(), frame.len(), write);
+    if number != 0 {
+        return Told { number, ..Told::default() };
     }
-    let mut engine = Engine { ring, write, read: 0, registers: [0; 17], table: [0; 512], index: 0 };
-    loop {
-        match engine.next(frame) {
-            Next::Waits => return told,
-            Next::Refused(number) => {
-                told.units = told.units.wrapping_add(1);
-                told.number = number;
-                return told;
-            }
-            Next::Done(units) => {
-                told.units = told.units.wrapping_add(units);
-                told.retired = told.retired.wrapping_add(1);
-            }
+    let mut engine = Engine::new(ring);
+    engine.write = write;
+    engine.run(frame)
+}
+
+/// Setup and a list of calls, each of which publishes or runs over all that waits. Nothing of it is refused.
+pub fn drive(ring: &[u32], frame: &mut [u8], list: &List) -> Told {
+    let (mut engine, mut told) = (Engine::new(ring), Told::default());
+    for (kind, position) in list.kinds.iter().zip(&list.positions) {
+        if *kind == 0 {
+            engine.write = *position;
+        } else {
+            let Told { units, retired, number } = engine.run(frame);
+            told = told.and(units, retired, number);
         }
     }
+    told
 }
 
 /// 1, 2 or 5, or 0.
@@ -96,11 +113,50 @@ fn bad_lengths(ring: usize, frame: usize, write: usize) -> u32 {
 }
 
 impl Engine<'_> {
-    /// Does one command.
+    fn new(ring: &[u32]) -> Engine<'_> {
+        Engine { ring, write: 0, read: 0, registers: [0; 17], table: [0; 512], index: 0, wants: None, bytes: Vec::new() }
+    }
+
+    /// Does all that waits, up to a refusal.
+    #[inline(never)]
+    fn run(&mut self, frame: &mut [u8]) -> Told {
+        let mut told = Told::default();
+        loop {
+            if self.wants.is_some() {
+                let Told { units, retired, number } = self.picture(frame);
+                told = told.and(units, retired, number);
+                if retired == 0 {
+                    return told;
+                }
+            }
+            loop {
+                match self.next(frame) {
+                    Next::Waits => return told,
+                    Next::Refused(number) => return told.and(1, 0, number),
+                    Next::Done(units) => told = told.and(units, 1, 0),
+                    Next::Wants => {
+                        told = told.and(1, 0, 0);
+                        break;
+                    }
+                }
+            }
+        }
+    }
+
+    /// How many words wait.
     #[inline]
+    fn waiting(&self) -> usize {
+        if self.read <= self.write {
+            self.write - self.read
+        } else {
+            self.write + self.ring.len() - self.read
+        }
+    }
+
+    /// Does one command.
+    #[inline(always)]
     fn next(&mut self, frame: &mut [u8]) -> Next {
-        let size = self.ring.len();
-        let waiting = if self.read <= self.write { self.write - self.read } else { self.write + size - self.read };
+        let waiting = self.waiting();
         if waiting == 0 {
             return Next::Waits;
         }
@@ -121,7 +177,7 @@ impl Engine<'_> {
             return Next::Waits;
         }
         let done = if vector { self.vector(header, frame) } else { self.blt(header, frame) };
-        if let Next::Done(_) = done {
+        if let Next::Done(_) | Next::Wants = done {
             self.read = after;
         }
         done
@@ -141,11 +197,15 @@ impl Engine<'_> {
         Ok((length, if after >= size { after - size } else { after }))
     }
 
-    /// Loads words into the table.
+    /// Loads words into the table. Data that nobody wants come here too.
     #[inline(never)]
     fn table(&mut self, header: u32, waiting: usize) -> Next {
-        if header & 0x2FFF_FFFC != 0 {
+        let data = header & 0x2000_0000 != 0;
+        if header & if data { 0x0FFF_FFFE } else { 0x0FFF_FFFC } != 0 {
             return Next::Refused(21);
+        }
+        if data {
+            return Next::Refused(31);
         }
         if waiting < 3 {
             return Next::Waits;
@@ -175,6 +235,70 @@ impl Engine<'_> {
         Next::Done(1)
     }
 
+    /// Feeds the BLT that wants data by the data commands that wait. It is retired once its picture is whole.
+    #[inline(never)]
+    fn picture(&mut self, frame: &mut [u8]) -> Told {
+        let mut told = Told::default();
+        while self.wants.is_some() {
+            match self.data(frame) {
+                Next::Done(units) => told = told.and(units, 0, 0),
+                Next::Refused(number) => return told.and(1, 0, number),
+                _ => return told,
+            }
+        }
+        told.and(0, 1, 0)
+    }
+
+    /// Does one data command.
+    #[inline]
+    fn data(&mut self, frame: &mut [u8]) -> Next {
+        let (waiting, size) = (self.waiting(), self.ring.len());
+        if waiting == 0 {
+            return Next::Waits;
+        }
+        let header = self.ring[self.read];
+        let kind = (header >> 29 & 3) as usize;
+        if header & [0x0FFF_0000, 0x0FFF_E000, 0x0FFF_FFFC, 0x0FFF_FFFE][kind] != 0 {
+            return Next::Refused(21);
+        }
+        if kind != 3 {
+            return Next::Refused(30);
+        }
+        if waiting < 2 {
+            return Next::Waits;
+        }
+        let count = self.ring[(self.read + 1) % size] as usize;
+        if !(1..=(size - 3).min(0xFFFF)).contains(&count) {
+            return Next::Refused(32);
+        }
+        let (needed, after) = match self.span(header, 2 + count) {
+            Ok(span) => span,
+            Err(number) => return Next::Refused(number),
+        };
+        if waiting < needed {
+            return Next::Waits;
+        }
+        let first = (self.read + 2) % size;
+        let pixels = match self.ring.get(first..first + count) {
+            Some(words) => self.feed(words, frame),
+            None => self.feed(&[&self.ring[first..], &self.ring[..first + count - size]].concat(), frame),
+        };
+        self.read = after;
+        Next::Done(1 + pixels)
+    }
+
+    /// Draws what these words feed, if they are wanted: how many pixels.
+    #[inline]
+    fn feed(&mut self, words: &[u32], frame: &mut [u8]) -> u32 {
+        let Some(host) = &mut self.wants else { return 0 };
+        let pixels = host.feed(frame, words, &self.registers, &self.table, &mut self.bytes);
+        if host.is_whole() {
+            self.wants = None;
+        }
+        pixels
+    }
+
+    #[inline(always)]
     fn blt(&mut self, header: u32, frame: &mut [u8]) -> Next {
         let mut loaded = self.registers;
         let first = self.read + 1;
@@ -186,6 +310,11 @@ impl Engine<'_> {
         if header & 0x8000 != 0 {
             match Blt::judged(&loaded, frame.len()) {
                 Ok(b) => {
+                    if let Source::Host(layout) = b.source {
+                        self.wants = Some(Host::new(b, layout));
+                        self.registers = loaded;
+                        return Next::Wants;
+                    }
                     blt::draw(frame, &b, &loaded, &self.table);
                     units += b.width as u32 * b.height as u32;
                 }
@@ -196,6 +325,7 @@ impl Engine<'_> {
         Next::Done(units)
     }
 
+    #[inline(always)]
     fn vector(&mut self, header: u32, frame: &mut [u8]) -> Next {
         let mut loaded = self.registers;
         let first = self.read + 1;

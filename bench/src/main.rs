@@ -6,6 +6,7 @@
 mod blt;
 mod calls;
 mod engine;
+mod host;
 mod mixed;
 mod order;
 mod plain;
@@ -35,8 +36,12 @@ extern "C" {
 }
 
 /// The proved engine.
-fn ours(ring: &[u32], frame: &mut [u8], write: usize) -> Told {
-    let mut told = Told::default();
+fn ours(case: &Case, frame: &mut [u8]) -> Told {
+    let (ring, mut told) = (&case.ring[..], Told::default());
+    if let Some(list) = &case.list {
+        let (units, retired) = calls::drive(ring, frame, list);
+        return Told { units: units as u32, retired, number: 0 };
+    }
     // The archive's function takes two runs, each as a pointer and a length, and touches nothing else but the two numbers.
     told.units = unsafe {
         bench_draw(
@@ -44,7 +49,7 @@ fn ours(ring: &[u32], frame: &mut [u8], write: usize) -> Told {
             ring.len(),
             frame.as_mut_ptr(),
             frame.len(),
-            write,
+            case.write,
             u32::MAX,
             &mut told.retired,
             &mut told.number,
@@ -53,10 +58,17 @@ fn ours(ring: &[u32], frame: &mut [u8], write: usize) -> Told {
     told
 }
 
-type Draw = fn(&[u32], &mut [u8], usize) -> Told;
+/// The rival.
+fn rust(case: &Case, frame: &mut [u8]) -> Told {
+    match &case.list {
+        Some(list) => engine::drive(&case.ring, frame, list),
+        None => engine::draw(&case.ring, frame, case.write),
+    }
+}
 
-/// The two engines: ours, and the rival.
-const ENGINES: [Draw; 2] = [ours, engine::draw];
+type Draw = fn(&Case, &mut [u8]) -> Told;
+
+const ENGINES: [Draw; 2] = [ours, rust];
 
 const TURNS: usize = 9;
 const TURN: f64 = 1.5e-3;
@@ -129,7 +141,10 @@ fn run(option: &str, word: &str) -> ExitCode {
             calls::measure(rank);
         }
         if "colour F0".contains(word) {
-            plain::measure(rank);
+            plain::measure_colors(rank);
+        }
+        if "host CC".contains(word) {
+            plain::measure_copies(rank);
         }
     }
     println!("bench: {} rings drawn, frame memory the same", cases.len() + mixed.len());
@@ -140,7 +155,7 @@ fn run(option: &str, word: &str) -> ExitCode {
 fn agree(case: &mut Case, start: &[u8], memories: &mut [Memory; 2]) -> Result<(), String> {
     let mut told = [Told::default(); 2];
     for i in 0..2 {
-        told[i] = ENGINES[i](&case.ring, memories[i].begin(case, start), case.write);
+        told[i] = ENGINES[i](case, memories[i].begin(case, start));
     }
     if told[0] != told[1] {
         return Err(format!("ours tells {:?}, the other {:?}", told[0], told[1]));
@@ -155,7 +170,7 @@ fn agree(case: &mut Case, start: &[u8], memories: &mut [Memory; 2]) -> Result<()
         return Ok(());
     }
     let retired = case.commands + case.loads;
-    if told[0] != (Told { units: (retired + case.pixels) as u32, retired: retired as u32, number: 0 }) {
+    if told[0] != (Told { units: (retired + case.data + case.pixels) as u32, retired: retired as u32, number: 0 }) {
         return Err(format!("not all of it is drawn: {:?}", told[0]));
     }
     Ok(())
@@ -166,7 +181,7 @@ fn agree(case: &mut Case, start: &[u8], memories: &mut [Memory; 2]) -> Result<()
 fn seconds(draw: Draw, case: &Case, frame: &mut [u8], times: usize) -> f64 {
     let start = Instant::now();
     for _ in 0..times {
-        std::hint::black_box(draw(std::hint::black_box(&case.ring), frame, case.write));
+        std::hint::black_box(draw(std::hint::black_box(case), frame));
     }
     start.elapsed().as_secs_f64()
 }

@@ -16,6 +16,7 @@ fn mixed_ring(seed: u64) -> Case {
         match random.below(8) {
             0 | 1 => ring.extend(mixed_vector(&mut random)),
             2 => ring.extend(mixed_table(&mut random)),
+            3 | 4 => ring.extend(mixed_host(&mut random)),
             _ => ring.extend(mixed_blt(&mut random)),
         }
     }
@@ -30,6 +31,8 @@ fn mixed_ring(seed: u64) -> Case {
         commands: 1,
         pixels: 0,
         loads: 0,
+        data: 0,
+        list: None,
         mixed: true,
     }
 }
@@ -126,6 +129,58 @@ fn mixed_blt(random: &mut Random) -> [u32; 17] {
         (random.below(200) == 0) as u32,
         back | source,
     ]
+}
+
+/// A BLT with host source and the data commands that it wants; rarely too few of them, or one too many.
+fn mixed_host(random: &mut Random) -> Vec<u32> {
+    let mut words = mixed_blt(random).to_vec();
+    let mode = one_of([0x02, 0x42, 0x82], random);
+    let bits = if mode == 0x02 { 0x0400 } else { 0x2C00 };
+    words[0] |= 0x9015;
+    words[1] = mixed_raster(random, bits) | mixed_pattern(random);
+    words[5] = size(60, random) << 16 | size(8, random);
+    words[13] = mixed_channel(random, words[1]);
+    words[16] = mode | random.next() & 0x304;
+    if mode == 0x02 && random.below(50) != 0 {
+        words[3] &= !(depth(&words) as u32 - 1); // or a pixel may straddle two words
+    }
+    let missing = if random.below(60) == 0 { 1 + random.below(4) } else { 0 };
+    let mut left = host_words(&words).saturating_sub(missing);
+    while left > 0 {
+        let most = one_of([left, left.min(9), 1].map(|n| n as u32), random);
+        let count = 1 + random.below(most as usize);
+        left -= count;
+        let spare = if left == 0 { [0, 0, 0, 1, 5][random.below(5)] } else { 0 };
+        words.extend(mixed_data(random, count + spare));
+    }
+    if random.below(100) == 0 {
+        words.extend(mixed_data(random, 3));
+    }
+    words
+}
+
+/// The depth of a BLT's words, if its format is one that is carried.
+fn depth(blt: &[u32]) -> usize {
+    [1, 2, 4, 4][(blt[1] >> 30) as usize]
+}
+
+/// How many words a picture through the ring has.
+fn host_words(blt: &[u32]) -> usize {
+    let [source, wide, high] = [blt[3], blt[5] >> 16, blt[5] & 0xFFFF].map(|w| w as usize);
+    let (byte, skip) = (source & 3, source >> 26 & 7);
+    match blt[16] & 0xC0 {
+        0x00 => (byte + wide * depth(blt)).div_ceil(4) * high,
+        0x40 => (8 * byte + skip + wide).div_ceil(32) * high,
+        _ => (byte + (skip + wide).div_ceil(8) * high).div_ceil(4),
+    }
+}
+
+/// A data command of so many words; rarely with a bad header or count word.
+fn mixed_data(random: &mut Random, count: usize) -> Vec<u32> {
+    let [header, word] = [400, 400].map(|n| if random.below(n) == 0 { 1 << random.below(32) } else { 0 });
+    let mut words = vec![0x6000_0001 ^ header, count as u32 ^ word];
+    words.extend((0..count).map(|_| random.next()));
+    words
 }
 
 fn mixed_vector(random: &mut Random) -> [u32; 14] {

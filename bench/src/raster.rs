@@ -306,6 +306,19 @@ pub fn fill(row: &mut [u8], depth: usize, value: u32) {
     fill_last(words.into_remainder(), value);
 }
 
+/// Stores the bytes of words without the first `skip`, which are fewer than four.
+#[inline]
+pub fn copy_words(row: &mut [u8], words: &[u32], skip: usize) {
+    let head = if skip == 0 { 0 } else { row.len().min(4 - skip) };
+    let (first, rest) = row.split_at_mut(head);
+    first.iter_mut().zip(&words[0].to_le_bytes()[skip..]).for_each(|(to, byte)| *to = *byte);
+    let words = &words[(skip != 0) as usize..];
+    let mut places = rest.chunks_exact_mut(4);
+    let last = words.get(places.len()).copied().unwrap_or(0);
+    (&mut places).zip(words).for_each(|(place, word)| put(place, *word));
+    fill_last(places.into_remainder(), last);
+}
+
 /// Stores a tile again and again.
 #[inline]
 pub fn fill_tile(row: &mut [u8], tile: &Tile) {

@@ -105,7 +105,9 @@ impl<V: Words, const W: usize, const STORES: bool> Painter<V, W, STORES> {
     fn draw(self, frame: &mut [u8], b: &Blt, font: Font, j: usize) -> bool {
         let n = b.width * W / 2;
         let (from, to) = (font.rows.at(j), b.to.at(j));
-        if from + font.bytes <= to {
+        if let Some(data) = b.data {
+            self.row(&mut frame[to..to + n], &data[from..from + font.bytes], font.skip);
+        } else if from + font.bytes <= to {
             let (low, high) = frame.split_at_mut(to);
             self.row(&mut high[..n], &low[from..from + font.bytes], font.skip);
         } else if to + n <= from {

@@ -1,5 +1,6 @@
 //! What is measured: rings full of commands of one kind, depth and size, and the recorded buffers.
 
+use crate::calls::List;
 use std::path::Path;
 
 /// Pixels in a row of the screen, and its rows. As many rows again lie below it, for sources and fonts.
@@ -21,6 +22,10 @@ pub struct Case {
     pub pixels: usize,
     /// Table loads before them.
     pub loads: usize,
+    /// Data commands, which no completion number counts.
+    pub data: usize,
+    /// The calls that draw it, where it needs more than one publish and one run.
+    pub list: Option<List>,
     /// Whether it is not known before how much of it is drawn: a recording, or random commands.
     pub mixed: bool,
 }
@@ -74,6 +79,20 @@ enum Source {
     /// Bits below the screen, byte-packed or in rows of a sheet.
     Packed,
     Sheet,
+    /// Through the ring: colours, or bits, byte-packed.
+    Host,
+    HostBits,
+}
+
+impl Source {
+    /// The words of a picture that come through the ring.
+    fn words(self, depth: usize, width: usize, height: usize) -> usize {
+        match self {
+            Source::Host => (width * depth).div_ceil(4) * height,
+            Source::HostBits => (width.div_ceil(8) * height).div_ceil(4),
+            _ => 0,
+        }
+    }
 }
 
 #[derive(Clone, Copy)]
@@ -107,7 +126,7 @@ const fn line(name: &'static str, raster: u32) -> Kind {
     Kind { name, shape: Shape::Line, raster, channel: false }
 }
 
-const KINDS: [Kind; 30] = [
+const KINDS: [Kind; 32] = [
     kind("fill F0", Source::None, 0xF0),
     kind("copy left CC", Source::Right, 0xCC),
     kind("copy right CC", Source::Left, 0xCC),
@@ -127,6 +146,8 @@ const KINDS: [Kind; 30] = [
     kind("text F0 holes", Source::Packed, SOURCE_HOLES | 0xF0),
     kind("text 96", Source::Packed, 0x96),
     kind("text 96 holes", Source::Packed, SOURCE_HOLES | 0x96),
+    kind("host CC", Source::Host, 0xCC),
+    kind("host CC mono", Source::HostBits, 0xCC),
     kind("code A0", Source::None, 0xA0),
     kind("code 55", Source::None, 0x55),
     kind("code 88 source", Source::Apart, 0x88),
@@ -163,6 +184,9 @@ pub fn all(word: &str) -> Vec<Case> {
         for depth in [1, 2, 4] {
             for (width, height, count) in SIZES {
                 cases.push(match kind.shape {
+                    Shape::Rectangle(source) if source.words(depth, width, height) > RING / 2 => {
+                        laps(kind, source, depth, width, height)
+                    }
                     Shape::Rectangle(source) => rectangles(kind, source, depth, (width, height, count)),
                     Shape::Line => lines(kind, depth, width, count.max(64)),
                 });
@@ -184,6 +208,8 @@ fn calls() -> Case {
         commands: 1,
         pixels: 0,
         loads: 0,
+        data: 0,
+        list: None,
         mixed: true,
     }
 }
@@ -195,9 +221,16 @@ fn rectangles(kind: &Kind, source: Source, depth: usize, (width, height, count):
     if loads == 1 {
         ring.extend(tile(&mut random));
     }
-    let count = count.min((RING - 1 - ring.len()) / 17);
+    let words = source.words(depth, width, height);
+    let each = if words == 0 { 17 } else { 17 + 2 + words };
+    let count = count.min((RING - 1 - ring.len()) / each);
+    let mut picture = words_of(&start(4 * words * count));
     for _ in 0..count {
         ring.extend(rectangle(kind, source, depth, width, height, &mut random));
+        if words != 0 {
+            ring.extend([0x6000_0001, words as u32]);
+            ring.extend(picture.drain(..words));
+        }
     }
     Case {
         kind: kind.name.to_string(),
@@ -209,6 +242,8 @@ fn rectangles(kind: &Kind, source: Source, depth: usize, (width, height, count):
         commands: count,
         pixels: count * width * height,
         loads,
+        data: if words == 0 { 0 } else { count },
+        list: None,
         mixed: false,
     }
 }
@@ -216,6 +251,38 @@ fn rectangles(kind: &Kind, source: Source, depth: usize, (width, height, count):
 fn filled(mut ring: Vec<u32>) -> Vec<u32> {
     ring.resize(RING, 0);
     ring
+}
+
+/// One picture that no ring holds. Two data commands are read lap after lap, each published when the other is done; the second
+/// goes across the ring's end and over the BLT's words, up to the first.
+fn laps(kind: &Kind, source: Source, depth: usize, width: usize, height: usize) -> Case {
+    const HALF: usize = RING / 2;
+    let mut ring = words_of(&start(4 * RING));
+    ring[..17].copy_from_slice(&rectangle(kind, source, depth, width, height, &mut Random::new((width + depth) as u64)));
+    for at in [17, 17 + HALF] {
+        ring[at..at + 2].copy_from_slice(&[0x6000_0001, HALF as u32 - 2]);
+    }
+    let data = source.words(depth, width, height).div_ceil(HALF - 2);
+    let ends = (0..data + 1).map(|i| 17 + i % 2 * HALF);
+    let calls: Vec<_> = ends.flat_map(|end| [(0, end, 0), (1, 0, u32::MAX)]).collect();
+    Case {
+        kind: kind.name.to_string(),
+        bits: 8 * depth,
+        size: format!("{width} x {height}"),
+        write: 0,
+        ring,
+        frame: 2 * HIGH * WIDE * depth,
+        commands: 1,
+        pixels: width * height,
+        loads: 0,
+        data,
+        list: Some(List::new(&calls)),
+        mixed: false,
+    }
+}
+
+fn words_of(bytes: &[u8]) -> Vec<u32> {
+    bytes.chunks_exact(4).map(|w| u32::from_le_bytes(w.try_into().unwrap())).collect()
 }
 
 /// A load of a colour pattern, as many words as it has at 32 bits.
@@ -266,6 +333,8 @@ fn places(source: Source, depth: usize, width: usize, height: usize, random: &mu
         Source::Smear => (to, to - away, 0x001),
         Source::Packed => (to, skip << 26 | below + random.below(below - packed), 0x081),
         Source::Sheet => (to, skip << 26 | row + random.below(stride - width / 8), 0x041),
+        Source::Host => (to, 0, 0x002),
+        Source::HostBits => (to, 0, 0x082),
     };
     [to as u32, from as u32, mode]
 }
@@ -288,6 +357,8 @@ fn lines(kind: &Kind, depth: usize, length: usize, count: usize) -> Case {
         commands: count,
         pixels: count * length,
         loads: 0,
+        data: 0,
+        list: None,
         mixed: false,
     }
 }
@@ -335,7 +406,7 @@ pub fn recordings(folder: &Path, word: &str) -> Vec<Case> {
     for path in files.iter().filter(|path| path.extension().is_some_and(|e| e == "rec")) {
         let kind = format!("rec {}", path.file_stem().unwrap().to_string_lossy());
         let bytes = std::fs::read(path).unwrap();
-        let words: Vec<u32> = bytes.chunks_exact(4).map(|w| u32::from_le_bytes(w.try_into().unwrap())).collect();
+        let words = words_of(&bytes);
         if kind.contains(word) && words.len() > 4 {
             cases.push(Case {
                 kind,
@@ -347,6 +418,8 @@ pub fn recordings(folder: &Path, word: &str) -> Vec<Case> {
                 commands: 1,
                 pixels: 0,
                 loads: 0,
+                data: 0,
+                list: None,
                 mixed: true,
             });
         }
