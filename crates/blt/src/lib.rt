@@ -119,7 +119,7 @@ fn bytes_of(registers: [u32; REGISTERS]) -> Rectangle
 {
     let last = less_one(number(registers, WID_HEIGHT, 27, 16));
     Rectangle {
-        offset: number(registers, SRC_OFFSET, 23, 0),
+        offset: fields::source_address(registers),
         depth: 1,
         columns: Axis {
             count: (number(registers, SRC_OFFSET, 28, 26) + last) / 8 + 1,
@@ -152,7 +152,7 @@ pub fn mono_source_of(registers: [u32; REGISTERS]) -> MonoSource
 pub fn destination_of(registers: [u32; REGISTERS]) -> Rectangle
     ensures { λ r. ⌜ r ≡ bltOf registers .destination ⌝ }
 {
-    let offset = number(registers, DST_OFFSET, 23, 0);
+    let offset = fields::destination_address(registers);
     let stride = number(registers, STRIDE, 15, 0);
     rectangle_of(registers, offset, stride)
 }
@@ -168,7 +168,7 @@ pub fn source_of(registers: [u32; REGISTERS]) -> Source
     if mono {
         return Source::Bits(mono_source_of(registers));
     }
-    let offset = number(registers, SRC_OFFSET, 23, 0);
+    let offset = fields::source_address(registers);
     let stride = number(registers, STRIDE, 31, 16);
     Source::Frame(rectangle_of(registers, offset, stride))
 }

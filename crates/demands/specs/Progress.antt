@@ -368,6 +368,7 @@ progress ring y fixed =
       by-runs = ended ring y fixed enoughRuns (units-enough (y .state .write) (y .state .core) fit);
     }
 
--- the numbers, as the docs have them; and the runs for a longer ring
-pub progress-numbers : (commandUnits ≡ 16_769_026) × (wordUnits ≡ 986_414) × (runsFor 16_384 ≡ 4) × (runsFor 262_144 ≡ 61)
+-- the numbers, as the docs have them: of a command, of a waiting word, of as many BLTs as the longest ring holds, and of runs
+pub progress-numbers :
+    (commandUnits ≡ 16_769_026) × (wordUnits ≡ 986_414) × ((ringMost - 1) / 17 * commandUnits ≡ 258_578_380_920) × (runsFor ringMost ≡ 61)
 progress-numbers = (refl, refl, refl, refl)

@@ -10,6 +10,7 @@ ghost use Rattle.model.specs.Unit.{pixelCount};
 ghost use Rattle.model.specs.Calls.{badStop, pixelTests, feedTests, placeTests, setupRules, unfitTests};
 ghost use Rattle.model.specs.declared.Place.the-variants.{Drawing, Wanting, Fed};
 ghost use Rattle.model.specs.declared.Primitive.the-variants.{Blt as BltPrimitive};
+use model::COUNT_MOST;
 use model::Core;
 use model::FRAME_MOST;
 use model::Feed;
@@ -127,6 +128,9 @@ fn bad_feed(c: Core, write: usize, k: usize, word: usize, feed: Feed) -> bool
         return true;
     }
     if before + count <= word {
+        return true;
+    }
+    if COUNT_MOST < count {
         return true;
     }
     if bad {

@@ -1,16 +1,15 @@
 // Refusals 23 to 28 of what a command draws, on the registers as they would be after loading.
 ghost use mathlib.Core.Path.{_≡_};
 ghost use Rattle.model.specs.BltPixel.{sourceOutside};
-ghost use Rattle.model.specs.Judging.{refusedFormat, row23, row24Both, channel3Further, row24Channel3, sourceBits, monoBack, row24Source, row24, row25, judge};
+ghost use Rattle.model.specs.Judging.{refusedFormat, row23, channel3Further, row24Channel3, sourceBits, monoBack, row24Source, row24, row25, judge};
 ghost use mathlib.Core.Bool.{_&&_};
 ghost use Rattle.model.specs.Choice.{_=?_};
-ghost use Rattle.model.specs.Registers.{sourceMode};
+ghost use Rattle.model.specs.Registers.{patternInversion, sourceMode};
 ghost use Rattle.model.specs.Host.{straddles};
 ghost use Rattle.laws.specs.Straddling.{straddling};
 ghost use Rattle.model.specs.declared.Primitive.the-variants.{Blt as BltPrimitive, Vector as VectorPrimitive};
 ghost use Rattle.laws.specs.Ranges.{RangedSource};
 ghost use Rattle.laws.specs.Some.{isOutside};
-use model::BASE_OFFSET;
 use model::BLT_MODE;
 use model::CH3_MODE_STR;
 use model::Extent;
@@ -48,16 +47,11 @@ fn bad_format(registers: [u32; REGISTERS]) -> bool
 
 // ---- 24
 
-// Of BLTs and vectors: pattern inversion, a base offset.
-fn bad_bits(registers: [u32; REGISTERS]) -> bool
-    ensures { λ r. ⌜ r ≡ row24Both registers ⌝ }
+// Pattern inversion.
+fn inverts_pattern(registers: [u32; REGISTERS]) -> bool
+    ensures { λ r. ⌜ r ≡ patternInversion registers ⌝ }
 {
-    let pattern = fields::is_set(registers[RASTER_MODE], 12);
-    if pattern {
-        return true;
-    }
-    let base = registers[BASE_OFFSET];
-    base != 0
+    fields::is_set(registers[RASTER_MODE], 12)
 }
 
 // Further mode bits of channel 3, but X and Y.
@@ -209,7 +203,7 @@ fn bad_source(registers: [u32; REGISTERS]) -> bool
     is_torn(registers)
 }
 
-// Of a BLT: a source or pattern mode that is not carried, a bad source, a bad channel 3, or one of the bits for both.
+// Of a BLT: a source or pattern mode that is not carried, a bad source, a bad channel 3, or pattern inversion.
 fn bad_blt_modes(registers: [u32; REGISTERS]) -> bool
     ensures { λ r. ⌜ r ≡ row24 registers BltPrimitive ⌝ }
 {
@@ -235,10 +229,10 @@ fn bad_blt_modes(registers: [u32; REGISTERS]) -> bool
     if channel3 {
         return true;
     }
-    bad_bits(registers)
+    inverts_pattern(registers)
 }
 
-// Of a vector: a pattern that is not solid, source transparency or inversion, channel 3, or one of the bits for both.
+// Of a vector: a pattern that is not solid, source transparency or inversion, channel 3, or pattern inversion.
 fn bad_vector_modes(registers: [u32; REGISTERS]) -> bool
     ensures { λ r. ⌜ r ≡ row24 registers VectorPrimitive ⌝ }
 {
@@ -255,7 +249,7 @@ fn bad_vector_modes(registers: [u32; REGISTERS]) -> bool
     if channel3 {
         return true;
     }
-    bad_bits(registers)
+    inverts_pattern(registers)
 }
 
 // ---- 25

@@ -16,7 +16,7 @@ use Rattle.model.specs.declared.Extent.the-variants.{Inside, Outside}
 use Rattle.model.specs.declared.Rectangle.{Rectangle}
 use Rattle.laws.specs.Some.{some-at, some-none, least-is, greatest-is}
 use Rattle.laws.specs.Pixels.{depth-least, depth-most}
-use Rattle.laws.specs.Ranges.{Ranged, InFrame, across-most, along-most}
+use Rattle.laws.specs.Ranges.{addressMost, Ranged, InFrame, across-most, along-most}
 use Rattle.laws.specs.Numbers.{column-is, row-is, row-lt, number-lt}
 
 -- from the byte of a row's first pixel that the offset names to the row's other end
@@ -214,7 +214,7 @@ within {size} {r} f {i} {j} p q =
 -- the numbers on the way to a pixel are small
 abbrev pub Small : Rectangle → (i j : ℕ) → Type 0
 Small r i j =
-    (i * r .columns .step ≤ sideMost * 4) × (j * r .rows .step ≤ sideMost * 65_535) × (0 < r .depth) × (r .depth ≤ 4) × (r .offset < frameMost)
+    (i * r .columns .step ≤ sideMost * 4) × (j * r .rows .step ≤ sideMost * 65_535) × (0 < r .depth) × (r .depth ≤ 4) × (r .offset < addressMost)
 
 small : {r : Rectangle} → Ranged r → (i j : ℕ) → i < r .columns .count → j < r .rows .count → Small r i j
 small g i j p q = (across-most g i (omega arith), along-most g j q, depth-least (g .deep), depth-most (g .deep), g .offset-most)

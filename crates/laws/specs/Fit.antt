@@ -9,7 +9,7 @@ use borrow.Author.Tests.{leb-true, leb-false, le-leb, lt-leb, ltb-false, lt-ltb,
 use Rattle.model.specs.Choice.{_<?_, _≤?_, _=?_, if_then_else_, not-both, neither, or-right, nonzero, if-both}
 use Rattle.model.specs.Refusals.{first, NoRule, Each, NoTest, order, rising, positive, rising-positive, exactly, none-first, first-each, first-append, any-none, none-any}
 use Rattle.model.specs.Registers.{width, height, vectorLength}
-use Rattle.model.specs.Limits.{ringLeast, ringMost, frameMost}
+use Rattle.model.specs.Limits.{ringLeast, ringMost, frameMost, countMost}
 use Rattle.model.specs.Ring.{distance, waiting, distance-lt}
 use Rattle.model.specs.Bits.{field}
 use Rattle.model.specs.Lookup.{dataType, dataCount}
@@ -130,6 +130,7 @@ pub record FitFed (c : Core) (w k : ℕ) (feed : Feed) : Type 0 where
   pub host : fromHost (c .registers) ≡ true
   pub begun : feed .before ≤ hostWord (c .registers) k
   pub feeding : hostWord (c .registers) k < feed .before + feed .count
+  pub held : feed .count ≤ countMost
   pub some : 0 < feed .count
   pub most : feed .count ≤ c .ringlength - 3
   pub good-return : badReturn (c .ringlength) (c .read) (dataLength (feed .count)) (feed .returns) ≡ false
@@ -138,16 +139,17 @@ pub record FitFed (c : Core) (w k : ℕ) (feed : Feed) : Type 0 where
 pub fed-parts : (c : Core) (w k : ℕ) (feed : Feed) → NoTest (placeTests c w (Fed k feed)) → FitFed c w k feed
 fed-parts c w k feed h =
     let t = h .1 .1 .1 .1 in
-    let count = neither (feed .count =? 0) _ (t .1 .1 .0) in
+    let count = neither (feed .count =? 0) _ (t .1 .1 .1 .0) in
     record {
       pixel = pixel-parts c Blt k h;
       host = not-false _ (h .1 .1 .1 .0);
       begun = ltb-false _ _ (t .0);
       feeding = leb-false _ _ (t .1 .0);
+      held = ltb-false _ _ (t .1 .1 .0);
       some = nonzero (feed .count) (count .0);
       most = ltb-false _ _ (count .1);
-      good-return = t .1 .1 .1 .0;
-      all-wait = leb-true _ _ (not-false _ (t .1 .1 .1 .1 .0));
+      good-return = t .1 .1 .1 .1 .0;
+      all-wait = leb-true _ _ (not-false _ (t .1 .1 .1 .1 .1 .0));
     }
 
 parts-fed : (c : Core) (w k : ℕ) (feed : Feed) → FitFed c w k feed → NoTest (placeTests c w (Fed k feed))
@@ -155,7 +157,7 @@ parts-fed c w k feed f =
     let count : badDataCount (c .ringlength) (feed .count) ≡ false =
     rw (ne-eqb (feed .count) 0 (λ e. let h = f .some in omega arith)) (le-ltb _ _ (f .most)) in
     parts-pixel c Blt k (f .pixel)
-    (ap not (f .host), (le-ltb _ _ (f .begun), (lt-leb _ _ (f .feeding), (count, (f .good-return, (ap not (le-leb _ _ (f .all-wait)), tt))))))
+    (ap not (f .host), (le-ltb _ _ (f .begun), (lt-leb _ _ (f .feeding), (le-ltb _ _ (f .held), (count, (f .good-return, (ap not (le-leb _ _ (f .all-wait)), tt)))))))
 
 -- row 3's clause on the count follows from its others: the count is not 0 because the command feeds the next pixel, and not above ring
 -- size less 3 because its words wait, of which there are at most ring size less 1 (with W, because they do not begin at ring word 0
@@ -386,6 +388,7 @@ module _ (ring : List ℕ) (c : Core) (w : ℕ) (fit : Fit c w) where
         host = f .host;
         begun = omega arith;
         feeding = omega arith;
+        held = omega arith;
         some = some;
         most = ltb-false _ _ (count .1);
         good-return = rw is at (accepted-return ring c e);
@@ -454,6 +457,7 @@ module _ (ring : List ℕ) (c : Core) (w : ℕ) (fit : Fit c w) where
             host = p .host;
             begun = let h = p .begun in omega (arith, host-next (c .registers) k (judged-wide (c .registers) _ (p .pixel .judged)));
             feeding = leb-false _ _ eu;
+            held = p .held;
             some = p .some;
             most = p .most;
             good-return = p .good-return;
@@ -499,6 +503,7 @@ fit-later c w later l h f = record {
           host = f .host;
           begun = f .begun;
           feeding = f .feeding;
+          held = f .held;
           some = f .some;
           most = f .most;
           good-return = f .good-return;

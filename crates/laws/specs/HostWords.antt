@@ -8,11 +8,11 @@ use native.Mathlib.Omega.{arith}
 use native.Mathlib.Nat.{mod-lt, add-mul, mul-assoc, mul-comm, mul-one, zero-mul, zero-mod, zero-div}
 use native.Mathlib.Numerals.{add-one}
 use Rattle.model.specs.Choice.{_=?_, neither, or-right}
-use Rattle.model.specs.Registers.{width, patternMode, sourceMode, sourceSelect, formatCode}
+use Rattle.model.specs.Registers.{width, patternInversion, patternMode, sourceMode, sourceSelect, formatCode}
 use Rattle.model.specs.Formats.{formatOf, depthOf}
 use Rattle.model.specs.BltPixel.{monoMode, bltOf, rectangleOf}
 use Rattle.model.specs.Host.{rowBytes, fromHost, startingByte, startingBit, bitsPerPixel, hostStride, hostOf, hostByte, hostPixel, hostWord, straddles}
-use Rattle.model.specs.Judging.{judge, sourceBits, monoBack, row24Source, row24Channel3, row24Both}
+use Rattle.model.specs.Judging.{judge, sourceBits, monoBack, row24Source, row24Channel3}
 use Rattle.model.specs.Unit.{pixelCount}
 use Rattle.model.specs.declared.Host.{Host}
 use Rattle.model.specs.declared.Primitive.the-variants.{Blt}
@@ -73,7 +73,7 @@ module _ (registers : List ℕ) (framelength : ℕ) (judged : judge Blt register
 
   pub no-straddle : straddles registers ≡ false
   no-straddle =
-      let rest = neither _ (row24Both registers) (judged-rows Blt registers framelength judged .1 .0) .0 in
+      let rest = neither _ (patternInversion registers) (judged-rows Blt registers framelength judged .1 .0) .0 in
       let codes = sourceMode registers =? 0b11 || sourceSelect registers =? 0b11 || patternMode registers =? 0b11 in
       let source = neither codes (row24Source registers) (neither _ (row24Channel3 registers) rest .0) .1 in
       neither (monoBack registers || sourceMode registers =? 0b00 && sourceBits registers) (straddles registers) source .1

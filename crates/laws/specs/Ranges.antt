@@ -1,5 +1,5 @@
 -- The ranges that the registers' fields give, and what judging accepts, as facts on rectangles, BLTs and vectors.
-use Prim.Native.Nat.{ℕ, _+_, _-_, _*_, _≤_, _<_}
+use Prim.Native.Nat.{ℕ, _+_, _-_, _*_, _^_, _≤_, _<_}
 use mathlib.Core.Path.{_≡_, refl}
 use mathlib.Core.Bool.{Bool, true, false, _||_}
 use mathlib.Core.List.{List}
@@ -9,8 +9,8 @@ use lib.IntN.{pos}
 use lib.Signed.{ltZ}
 use Rattle.model.specs.Choice.{_=?_, if_then_else_, not-both, neither, nonzero, if-both}
 use Rattle.model.specs.Refusals.{NoRule, positive, none-first}
-use Rattle.model.specs.Limits.{frameMost, sideMost}
-use Rattle.model.specs.Registers.{formatCode, patternMode, sourceOffset, sourceStride, width, height, vectorLength, sourceMode, sourceSelect}
+use Rattle.model.specs.Limits.{sideMost}
+use Rattle.model.specs.Registers.{granule, formatCode, patternMode, sourceAddress, sourceStride, width, height, vectorLength, sourceMode, sourceSelect}
 use Rattle.model.specs.Formats.{Depth, formatOf, depthOf}
 use Rattle.model.specs.Rectangle.{pixelsOf, rectangleOutside}
 use Rattle.model.specs.Expansion.{byteColumn}
@@ -32,6 +32,10 @@ use Rattle.laws.specs.Pixels.{depth-most}
 
 -- ---- what is in range
 
+-- above every base with every offset, fields of 10 and of 24 bits: more than 32 bits hold
+abbrev pub addressMost : ℕ
+addressMost = 1_023 * granule + 2 ^ 24
+
 -- a rectangle whose fields are in range
 pub record Ranged (r : Rectangle) : Type 0 where
   pub deep : Depth (r .depth)
@@ -41,7 +45,7 @@ pub record Ranged (r : Rectangle) : Type 0 where
   pub high : 0 < r .rows .count
   pub high-most : r .rows .count ≤ sideMost
   pub stride-most : r .rows .step < 65_536
-  pub offset-most : r .offset < frameMost
+  pub offset-most : r .offset < addressMost
 
 -- and that lies in a frame memory of `size` bytes
 pub record InFrame (size : ℕ) (r : Rectangle) : Type 0 where
@@ -87,7 +91,7 @@ pub record RangedVector (v : Vector) : Type 0 where
   pub deep : Depth (v .depth)
   pub long : 0 < v .length
   pub long-most : v .length < 4096
-  pub offset-most : v .offset < frameMost
+  pub offset-most : v .offset < addressMost
   pub stride-most : v .stride < 65_536
   pub axial-rises : ltZ (v .axial) (pos 0) ≡ false
   pub diagonal-falls : ltZ (pos 0) (v .diagonal) ≡ false
@@ -128,7 +132,7 @@ module _ (registers : List ℕ) (no-23 : row23 registers ≡ false) where
 
   -- once 23 and 25 do not apply, the rectangles of a BLT are in range
   module _ (no-25 : row25 registers BltPrimitive ≡ false) where
-    ranged : (offset stride : ℕ) → offset < frameMost → stride < 65_536 → Ranged (rectangleOf registers offset stride)
+    ranged : (offset stride : ℕ) → offset < addressMost → stride < 65_536 → Ranged (rectangleOf registers offset stride)
     unfolding rectangleOf
     ranged offset stride o s =
         let n = neither (width registers =? 0) (height registers =? 0) no-25 in
@@ -145,10 +149,10 @@ module _ (registers : List ℕ) (no-23 : row23 registers ≡ false) where
 
     pub ranged-destination : Ranged (bltOf registers .destination)
     unfolding bltOf
-    ranged-destination = ranged _ _ (mod-lt _ (omega arith)) (mod-lt _ (omega arith))
+    ranged-destination = ranged _ _ (omega arith) (mod-lt _ (omega arith))
 
-    from-frame : Ranged (rectangleOf registers (sourceOffset registers) (sourceStride registers))
-    from-frame = ranged _ _ (mod-lt _ (omega arith)) (mod-lt _ (omega arith))
+    from-frame : Ranged (rectangleOf registers (sourceAddress registers) (sourceStride registers))
+    from-frame = ranged _ _ (omega arith) (mod-lt _ (omega arith))
 
     from-bits : Ranged (bytesOf registers)
     unfolding bytesOf
@@ -162,7 +166,7 @@ module _ (registers : List ℕ) (no-23 : row23 registers ≡ false) where
           high = nonzero (height registers) (n .1);
           high-most = omega arith;
           stride-most = if-both (λ s. s < 65_536) (sourceMode registers =? 2) (omega arith) (mod-lt _ (omega arith));
-          offset-most = mod-lt _ (omega arith);
+          offset-most = omega arith;
         }
 
     -- and what a source reads
@@ -180,7 +184,7 @@ module _ (registers : List ℕ) (no-23 : row23 registers ≡ false) where
         deep = accepted-depth;
         long = nonzero (vectorLength registers) no-25;
         long-most = mod-lt _ (omega arith);
-        offset-most = mod-lt _ (omega arith);
+        offset-most = omega arith;
         stride-most = mod-lt _ (omega arith);
         axial-rises = t .0;
         diagonal-falls = t .1;

@@ -4,7 +4,7 @@ use Prim.Native.Nat.{ℕ, _+_, _-_, _/_}
 use mathlib.Core.Bool.{Bool, false, _&&_, _||_}
 use mathlib.Core.List.{List}
 use Rattle.model.specs.Choice.{_=?_, if_then_else_}
-use Rattle.model.specs.Registers.{word, SRC-COLOR-FG, SRC-COLOR-BG, PAT-COLOR-0, PAT-COLOR-1, PAT-DATA-0, PAT-DATA-1, formatCode, sourceInversion, sourceTransparency, patternTransparency, patternMode, rasterCode, patternRow, patternColumn, channel3Row, channel3Column, channel3Enable, channel3PatternMode, destinationOffset, sourceSkip, sourceOffset, sourceStride, destinationStride, width, height, xNegative, yNegative, sourceMode, sourceSelect}
+use Rattle.model.specs.Registers.{word, SRC-COLOR-FG, SRC-COLOR-BG, PAT-COLOR-0, PAT-COLOR-1, PAT-DATA-0, PAT-DATA-1, formatCode, sourceInversion, sourceTransparency, patternTransparency, patternMode, rasterCode, patternRow, patternColumn, channel3Row, channel3Column, channel3Enable, channel3PatternMode, destinationAddress, sourceSkip, sourceAddress, sourceStride, destinationStride, width, height, xNegative, yNegative, sourceMode, sourceSelect}
 use Rattle.model.specs.Formats.{formatOf, depthOf}
 use Rattle.model.specs.Rectangle.{pixelByte, columnOf, rowOf, rectangleOutside}
 use Rattle.model.specs.Pixel.{readPixel}
@@ -57,7 +57,7 @@ module _ (registers : List ℕ) where
   -- further, or back if Y is negative
   unfoldable pub bytesOf : Rectangle
   bytesOf = record {
-    offset = sourceOffset registers;
+    offset = sourceAddress registers;
     depth = 1;
     columns = record { count = byteColumn (sourceSkip registers) (width registers - 1) + 1; step = 1; negative = false };
     rows = record { count = height registers; step = rowStride; negative = yNegative registers };
@@ -77,7 +77,7 @@ module _ (registers : List ℕ) where
   unfoldable pub sourceOf : Source
   sourceOf =
       if sourceSelect registers =? 0b01
-      then (if monoMode then Bits monoSourceOf else Frame (rectangleOf (sourceOffset registers) (sourceStride registers)))
+      then (if monoMode then Bits monoSourceOf else Frame (rectangleOf (sourceAddress registers) (sourceStride registers)))
       else Unselected (word registers SRC-COLOR-FG)
 
   -- "Solid pattern is PAT_COLOR_0."
@@ -105,7 +105,7 @@ module _ (registers : List ℕ) where
 
   unfoldable pub bltOf : Blt
   bltOf = record {
-    destination = rectangleOf (destinationOffset registers) (destinationStride registers);
+    destination = rectangleOf (destinationAddress registers) (destinationStride registers);
     source = sourceOf;
     pattern = patternOf;
     code = rasterCode registers;

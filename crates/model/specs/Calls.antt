@@ -6,7 +6,7 @@ use mathlib.Core.List.{List, [], _∷_, _++_}
 use lib.ListN.{length, replicate}
 use Rattle.model.specs.Choice.{_<?_, _≤?_, _=?_, if_then_else_}
 use Rattle.model.specs.Refusals.{Rule, _when_, first, any}
-use Rattle.model.specs.Limits.{ringLeast, ringMost, frameMost, stopLeast, stopMost, tableLength}
+use Rattle.model.specs.Limits.{ringLeast, ringMost, frameMost, countMost, stopLeast, stopMost, tableLength}
 use Rattle.model.specs.Registers.{registerCount}
 use Rattle.model.specs.Ring.{waiting, room, positionRules}
 use Rattle.model.specs.Command.{dataLength, badReturn, badDataCount, wholeWords}
@@ -69,11 +69,13 @@ pixelTests c primitive k =
     ∷ []
 
 -- W5: "a place that no split of the BLT's words into data commands reaches, a count or W that 32 or 22 would refuse at the read
--- pointer, and a data command whose words, with W also those up to the ring's end, don't all wait"
+-- pointer, and a data command whose words, with W also those up to the ring's end, don't all wait". No data command has a count above
+-- 65,535, which its count word cannot hold, so no split has one either: with W6's rings 32 alone would let it pass
 abbrev pub feedTests : Core → (write k : ℕ) → Feed → List Bool
 feedTests c write k feed =
     (hostWord (c .registers) k <? feed .before)
     ∷ (feed .before + feed .count ≤? hostWord (c .registers) k)
+    ∷ (countMost <? feed .count)
     ∷ badDataCount (c .ringlength) (feed .count)
     ∷ badReturn (c .ringlength) (c .read) (dataLength (feed .count)) (feed .returns)
     ∷ not (wholeWords (c .ringlength) (c .read) (dataLength (feed .count)) (feed .returns) ≤? waiting (c .ringlength) (c .read) write)

@@ -2,7 +2,7 @@
 use Prim.Native.Nat.{ℕ, zero, suc, _+_, _-_, _%_}
 use mathlib.Core.List.{List, [], _∷_, _++_}
 use lib.ListN.{length, replicate, set}
-use Rattle.model.specs.Registers.{registerCount}
+use Rattle.model.specs.Registers.{registerCount, RASTER-MODE, DST-OFFSET, SRC-OFFSET, STRIDE, WID-HEIGHT, BLT-MODE, VEC-LEN}
 use Rattle.model.specs.declared.State.{State}
 use Rattle.model.specs.declared.Answer.{Answer}
 use Rattle.model.specs.declared.Place.{Place}
@@ -53,6 +53,17 @@ engine registers framelength read write place = engineAt registers framelength r
 
 abbrev pub answer : State → Reply → Answer
 answer s reply = record { state = s; reply = reply }
+
+-- one row of four pixels of one byte by code F0h, and a copy of one by CCh (BLT_MODE 1h, or 201h with X negative)
+abbrev pub row : List ℕ
+row = zeros but RASTER-MODE is 0xF0 but WID-HEIGHT is 0x00040001
+
+abbrev pub copy : (src dst mode : ℕ) → List ℕ
+copy src dst mode = row but RASTER-MODE is 0xCC but SRC-OFFSET is src but DST-OFFSET is dst but BLT-MODE is mode
+
+-- a vector of one pixel of one byte by code F0h, stride 2
+abbrev pub line : List ℕ
+line = zeros but RASTER-MODE is 0xF0 but STRIDE is 2 but VEC-LEN is 0x00010000
 
 -- n numbers from `first` on, `step` apart
 abbrev pub series : (first step n : ℕ) → List ℕ

@@ -26,9 +26,10 @@ use Rattle.model.specs.Judging.{judge}
 use Rattle.model.specs.Completion.{retired}
 use Rattle.model.specs.Unit.{headerRefusal, commandRefusal, needed, ready, stopped, loadedCore, tableAfter, pixelCount, drawPixel, drawnCore, fedWord, fedCore, takenCore, commandUnit, unitAt, unit, possible, units}
 use Rattle.model.specs.Calls.{numberOf, unitsOf, unfit, freshState, setup, publish, restart, askRoom, runWord, runRefusal, runUnits, ranAnswer, run, runFrame}
-use Rattle.model.specs.CaseSetup.{_but_is_, zeros, ringOf, noTable, engineWith, engineAt, engine, answer, series, placed, tileTable}
+use Rattle.model.specs.CaseSetup.{_but_is_, zeros, ringOf, noTable, engineWith, engineAt, engine, answer, series, placed, tileTable, row, copy, line}
 pub use Rattle.model.specs.CaseSetup.{size}
 use Rattle.model.specs.HostCases.{HostSources, HostJudged, DataCommands, DataRefused, HostPlaces}
+use Rattle.model.specs.BaseCases.{Bases}
 use Rattle.model.specs.declared.State.{State}
 use Rattle.model.specs.declared.Answer.{Answer}
 use Rattle.model.specs.declared.Extent.{Extent}
@@ -59,17 +60,6 @@ whole read write header = wholeWords size read (commandLength (kindOf header) 0)
 
 abbrev pub headerNumber : (read header : ℕ) → ℕ
 headerNumber read header = first (headerRules false size read header 0)
-
--- one row of four pixels of one byte by code F0h, and a copy of one by CCh (BLT_MODE 1h, or 201h with X negative)
-abbrev pub row : List ℕ
-row = zeros but RASTER-MODE is 0xF0 but WID-HEIGHT is 0x00040001
-
-abbrev pub copy : (src dst mode : ℕ) → List ℕ
-copy src dst mode = row but RASTER-MODE is 0xCC but SRC-OFFSET is src but DST-OFFSET is dst but BLT-MODE is mode
-
--- a vector of one pixel of one byte by code F0h, stride 2
-abbrev pub line : List ℕ
-line = zeros but RASTER-MODE is 0xF0 but STRIDE is 2 but VEC-LEN is 0x00010000
 
 -- where pixels 0 to 5 of a vector lie in rows of 100 bytes
 abbrev pub firstSix : (dst err len mode : ℕ) → List (ℕ × ℕ)
@@ -163,12 +153,11 @@ pub record Extremes : Type 0 where
 pub record Judged : Type 0 where
   -- 23: codes 0001 and 0111, alpha
   pub formats-refused : rowWith RASTER-MODE (0x100000F0 ∷ 0x700000F0 ∷ 0x004000F0 ∷ 0x008000F0 ∷ []) ≡ replicate 4 23
-  -- 24: each bit and mode of RASTER_MODE but the colour pattern, SM 11 and SR 11 of BLT_MODE, channel 3, BASE_OFFSET; 25; and bits
-  -- that refuse nothing
+  -- 24: each bit and mode of RASTER_MODE but the colour pattern, SM 11 and SR 11 of BLT_MODE, channel 3; 25; and bits that refuse
+  -- nothing
   pub modes-refused : rowWith RASTER-MODE (0x20F0 ∷ 0x10F0 ∷ 0x08F0 ∷ 0x03F0 ∷ 0x02F0 ∷ []) ≡ replicate 4 24 ++ (0 ∷ [])
   pub sources-refused : rowWith BLT-MODE (0x40 ∷ 0x80 ∷ 0xC0 ∷ 0x02 ∷ 0x03 ∷ []) ≡ 0 ∷ 0 ∷ 24 ∷ 0 ∷ 24 ∷ []
   pub channel-3-refused : rowWith CH3-MODE-STR (0x80000000 ∷ 0x7FFFFFFF ∷ []) ≡ 24 ∷ 0 ∷ []
-  pub base-refused : rowWith BASE-OFFSET (0x00000001 ∷ 0x80000000 ∷ []) ≡ 24 ∷ 24 ∷ []
   pub sizes-refused : rowWith WID-HEIGHT (0xF000F001 ∷ 0xF004F000 ∷ 0xF004F001 ∷ []) ≡ 25 ∷ 25 ∷ 0 ∷ []
   pub no-effect :
       map (λ r. judge Blt (copy 0 0 0xC04 but RASTER-MODE is r) 16) (0x1F0 ∷ 0x5F0 ∷ 0x4F0 ∷ 0x0F3FC0F0 ∷ []) ≡ replicate 4 0
@@ -217,8 +206,8 @@ pub record Calls : Type 0 where
   -- "After setup all registers, pointers and the completion number are zero"; refused by 1 or 2, "a state of all zeros"
   pub setup-fresh : setup size 16 ≡ answer (engine zeros 16 0 0 Idle) (Accepted (size - 1))
   pub setup-refused : setup (size - 1) 16 ≡ answer (freshState 0 0) (Refused 1)
-  pub setup-rings : map (λ n. numberOf (setup n 16 .reply)) (1_023 ∷ 1_024 ∷ 16_384 ∷ 16_385 ∷ []) ≡ 1 ∷ 0 ∷ 0 ∷ 1 ∷ []
-  pub setup-frames : map (λ n. numberOf (setup size n .reply)) (0 ∷ 1 ∷ 16_777_216 ∷ 16_777_217 ∷ []) ≡ 2 ∷ 0 ∷ 0 ∷ 2 ∷ []
+  pub setup-rings : map (λ n. numberOf (setup n 16 .reply)) (1_023 ∷ 1_024 ∷ 262_144 ∷ 262_145 ∷ []) ≡ 1 ∷ 0 ∷ 0 ∷ 1 ∷ []
+  pub setup-frames : map (λ n. numberOf (setup size n .reply)) (0 ∷ 1 ∷ 67_108_864 ∷ 67_108_865 ∷ []) ≡ 2 ∷ 0 ∷ 0 ∷ 2 ∷ []
   -- "The same position again does nothing."; one between the pointers is 6; asking for room
   pub publish-again : publish (engine zeros 16 3 9 Idle) 9 ≡ answer (engine zeros 16 3 9 Idle) (Accepted (size - 7))
   pub publish-refused : publish (engine zeros 16 3 9 Idle) 8 ≡ answer (engine zeros 16 3 9 Idle) (Refused 6)
@@ -706,6 +695,7 @@ pub record Further : Type 0 where
   pub data-commands : DataCommands
   pub data-refused : DataRefused
   pub host-places : HostPlaces
+  pub bases : Bases
 
 -- ---- a recording
 
@@ -768,7 +758,7 @@ cases = (
   },
   record {
     extremes = record { row-fits = refl; right-down = refl; left-down = refl; right-up = refl; left-up = refl; source-bounds = refl; inner-extreme = refl; one-pixel = refl };
-    judged = record { formats-refused = refl; modes-refused = refl; sources-refused = refl; channel-3-refused = refl; base-refused = refl; sizes-refused = refl; no-effect = refl; vectors-refused = refl; vector-blt-mode = refl; vector-length = refl; vector-terms = refl };
+    judged = record { formats-refused = refl; modes-refused = refl; sources-refused = refl; channel-3-refused = refl; sizes-refused = refl; no-effect = refl; vectors-refused = refl; vector-blt-mode = refl; vector-length = refl; vector-terms = refl };
     commands = record { headers-refused = refl; headers-taken = refl; returns-at-end = refl; header-alone = refl; part-waits = refl; only-loads = refl; blt-words = refl; skipped-words = refl; across-loads = refl; refused-loads-nothing = refl };
     calls = record { setup-fresh = refl; setup-refused = refl; setup-rings = refl; setup-frames = refl; publish-again = refl; publish-refused = refl; room-asked = refl; restart-moves = refl; restart-refused = refl; ring-lent = refl; frame-lent = refl; unfit-refused = refl; pointers = refl; stops = refl; stop-drawing = refl; places = refl; judged-place = refl };
     pixels = record { foreground = refl; own-stride = refl; two-bytes = refl; four-bytes = refl; mono-colours = refl; mono-transparent = refl; mono-units = refl; solid-transparent = refl; pattern-right-down = refl; pattern-left-down = refl; pattern-right-up = refl; pattern-left-up = refl };
@@ -782,6 +772,7 @@ cases = (
     data-commands = record { from-the-load = refl; wants-none = refl; each-unit = refl; headers-taken = refl; wraps = refl; words-wait = refl; not-read-again = refl; returns-waits = refl; returns-units = refl; returns-frame = refl; across-end = refl; left-over = refl; left-over-returns = refl; waiting-said = refl; restart-refused = refl };
     data-refused = record { others-refused = refl; whole-others = refl; data-first = refl; data-first-counts = refl; data-after = refl; headers-first = refl; counts-wait = refl; counts-refused = refl; count-most = refl; count-larger = refl; returns-wait = refl; returns-refused = refl; abandoned = refl; abandoned-seen = refl; restarted = refl };
     host-places = record { wanting = refl; wanting-mono = refl; fed-before = refl; fed-after = refl; fed-none = refl; fed-last = refl; fed-count = refl; fed-return = refl; fed-waiting = refl; fed-calls = refl; selected = refl; vector-drawn = refl; host-stopped = refl; host-judged = refl };
+    bases = record { two-screens = λ frame. refl; two-retired = λ frame. refl; own-channels = refl; last-byte = refl; base-1023 = refl; no-region = refl; below-base = refl; source-in = refl; bits-in = refl; line-in = refl; bases-judged = refl; host-stays = refl; base-in-progress = refl; counts-of-rings = refl; saved-counts = refl };
   },
   record { shop-setup = refl; shop-publish = refl; shop-run = refl; shop-read = refl; shop-write = refl; shop-retired = refl; shop-frame = refl; shop-budgets = refl; shop-load = refl },
 )

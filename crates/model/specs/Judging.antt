@@ -6,7 +6,7 @@ use lib.IntN.{pos}
 use lib.Signed.{ltZ}
 use Rattle.model.specs.Choice.{_=?_}
 use Rattle.model.specs.Refusals.{Rule, _when_, first}
-use Rattle.model.specs.Registers.{word, BASE-OFFSET, formatCode, alphaEnable, sourceInversion, patternInversion, sourceTransparency, patternMode, channel3Enable, channel3ToSource, channel3Format, channel3Rotation, channel3Bgr, channel3PatternMode, channel3Preserve, channel3Prefetch, channel3Host, xNegative, yNegative, sourceMode, sourceSelect, width, height, vectorLength}
+use Rattle.model.specs.Registers.{formatCode, alphaEnable, sourceInversion, patternInversion, sourceTransparency, patternMode, channel3Enable, channel3ToSource, channel3Format, channel3Rotation, channel3Bgr, channel3PatternMode, channel3Preserve, channel3Prefetch, channel3Host, xNegative, yNegative, sourceMode, sourceSelect, width, height, vectorLength}
 use Rattle.model.specs.Formats.{formatOf}
 use Rattle.model.specs.Rectangle.{rectangleOutside}
 use Rattle.model.specs.BltPixel.{monoMode, bltOf, sourceOutside}
@@ -25,10 +25,6 @@ module _ (registers : List ℕ) where
   -- 23: "colour format not one of the five .., or alpha enabled"
   abbrev pub row23 : Bool
   row23 = refusedFormat (formatOf (formatCode registers)) || not (alphaEnable registers =? 0b00)
-
-  -- 24, for both kinds: document 02's W1 "keeps pattern inversion", document 01 "BASE_OFFSET not 0"
-  abbrev pub row24Both : Bool
-  row24Both = patternInversion registers || not (word registers BASE-OFFSET =? 0)
 
   -- W4: "further mode bits but X and Y"
   abbrev pub channel3Further : Bool
@@ -59,7 +55,8 @@ module _ (registers : List ℕ) where
   row24Source = monoBack || sourceMode registers =? 0b00 && sourceBits || straddles registers
 
   -- 24: "a source or pattern mode field with a code not carried (used by the pixels or not; BLT_MODE is judged for a BLT
-  -- only)", "a vector with a pattern that isn't solid, channel 3 enabled"
+  -- only)", "a vector with a pattern that isn't solid, channel 3 enabled"; W1 "keeps pattern inversion". W6: "Number 24 stops covering
+  -- BASE_OFFSET"
   abbrev pub row24 : Primitive → Bool
   row24 Blt =
       sourceMode registers =? 0b11
@@ -67,8 +64,8 @@ module _ (registers : List ℕ) where
       || patternMode registers =? 0b11
       || row24Source
       || row24Channel3
-      || row24Both
-  row24 Vector = not (patternMode registers =? 0b00) || sourceBits || channel3Enable registers || row24Both
+      || patternInversion registers
+  row24 Vector = not (patternMode registers =? 0b00) || sourceBits || channel3Enable registers || patternInversion registers
 
   -- 25: "width, height or vector length 0"
   abbrev pub row25 : Primitive → Bool

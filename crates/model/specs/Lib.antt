@@ -26,4 +26,5 @@ pub mod Perform
 pub mod Steps
 pub mod CaseSetup
 pub mod HostCases
+pub mod BaseCases
 pub mod Cases

@@ -1,6 +1,6 @@
 -- The registers and their fields, at the bit positions of 000 (docs/registers.md has the table of 000 for each).
 -- A register's value is a 32-bit word, and the registers are one list, indexed by the numbers below.
-use Prim.Native.Nat.{ℕ}
+use Prim.Native.Nat.{ℕ, _+_, _*_}
 use mathlib.Core.Bool.{Bool}
 use mathlib.Core.List.{List}
 use lib.ListN.{getD}
@@ -72,6 +72,10 @@ VEC-ERR = SRC-OFFSET
 
 abbrev pub VEC-LEN : ℕ
 VEC-LEN = WID-HEIGHT
+
+-- W6: the "granule of 000": a base "begins on a 4 MB boundary", 4 MiB
+abbrev pub granule : ℕ
+granule = 4_194_304
 
 -- the word that a register holds
 abbrev pub word : List ℕ → ℕ → ℕ
@@ -193,6 +197,22 @@ module _ (registers : List ℕ) where
 
   abbrev pub channel3Host : Bool
   channel3Host = set? (word registers CH3-MODE-STR) 18
+
+  -- ---- GP_BASE_OFFSET, 4Ch: DBASE 31:22, SBASE 21:12, CH3BASE 11:2, each in steps of a granule. (Nothing reads frame memory through
+  -- channel 3, so its base is not used)
+
+  abbrev pub destinationBase : ℕ
+  destinationBase = field (word registers BASE-OFFSET) 31 22 * granule
+
+  abbrev pub sourceBase : ℕ
+  sourceBase = field (word registers BASE-OFFSET) 21 12 * granule
+
+  -- W6: "each base is added to its own channel's offset". "Positions are .. never reduced" (document 01), so nothing wraps
+  abbrev pub destinationAddress : ℕ
+  destinationAddress = destinationBase + destinationOffset
+
+  abbrev pub sourceAddress : ℕ
+  sourceAddress = sourceBase + sourceOffset
 
   -- ---- GP_BLT_MODE, 40h: X 9, Y 8 (1 is negative), SM 7:6, SR 1:0
 

@@ -5,7 +5,7 @@ use mathlib.Core.List.{List}
 use lib.IntN.{ℤ, pos, _+ℤ_, _-ℤ_}
 use lib.Signed.{ltZ}
 use Rattle.model.specs.Choice.{_<?_, if_then_else_}
-use Rattle.model.specs.Registers.{word, SRC-COLOR-FG, PAT-COLOR-0, formatCode, rasterCode, destinationOffset, axialField, diagonalField, destinationStride, vectorLength, initialField, minorPositive, majorPositive, yMajor}
+use Rattle.model.specs.Registers.{word, SRC-COLOR-FG, PAT-COLOR-0, formatCode, rasterCode, destinationAddress, axialField, diagonalField, destinationStride, vectorLength, initialField, minorPositive, majorPositive, yMajor}
 use Rattle.model.specs.Formats.{formatOf, depthOf}
 use Rattle.model.specs.Bounds.{firstByte, outside, extent}
 use Rattle.model.specs.Operands.{drawOperands}
@@ -23,7 +23,7 @@ unfoldable pub vectorOf : List ℕ → Vector
 vectorOf registers = record {
   depth = depthOf (formatOf (formatCode registers));
   length = vectorLength registers;
-  offset = destinationOffset registers;
+  offset = destinationAddress registers;
   stride = destinationStride registers;
   axial = signed16 (axialField registers);
   diagonal = signed16 (diagonalField registers);

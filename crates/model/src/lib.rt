@@ -4,9 +4,13 @@
 
 pub const RING_LEAST: usize = 1024;
 
-pub const RING_MOST: usize = 16384;
+pub const RING_MOST: usize = 262144;
 
-pub const FRAME_MOST: usize = 16777216;
+pub const FRAME_MOST: usize = 67108864;
+
+pub const GRANULE: usize = 4194304;
+
+pub const COUNT_MOST: usize = 65535;
 
 pub const STOP_LEAST: u32 = 21;
 
@@ -167,7 +171,8 @@ pub struct Axis {
     pub negative: bool,
 }
 
-// Pixels in frame memory: the first byte of the first one drawn, or with X negative its last; bytes a pixel; and the two axes.
+// Pixels in frame memory: the first byte of the first one drawn, or with X negative its last, counted from byte 0 of frame memory;
+// bytes a pixel; and the two axes.
 pub struct Rectangle {
     pub offset: usize,
     pub depth: usize,
@@ -253,7 +258,7 @@ pub struct Vector {
     // bytes a pixel; length in pixels
     pub depth: usize,
     pub length: usize,
-    // destination
+    // destination: the first byte of the first pixel, counted from byte 0 of frame memory
     pub offset: usize,
     pub stride: usize,
     // error terms

@@ -1,5 +1,4 @@
 // Vectors: the registers that describe one, the steps from pixel to pixel, the bytes that it reaches, and its drawing.
-use model::DST_OFFSET;
 use model::Extent;
 use model::PAT_COLOR_0;
 use model::Position;
@@ -67,7 +66,7 @@ pub fn vector_of(registers: [u32; REGISTERS]) -> Vector
     let mode = registers[VECTOR_MODE];
     let depth = fields::depth_of(fields::bits(raster, 31, 28));
     let code = fields::bits(raster, 7, 0);
-    let offset = fields::number(registers[DST_OFFSET], 23, 0);
+    let offset = fields::destination_address(registers);
     let stride = fields::number(registers[STRIDE], 15, 0);
     let length = fields::number(size, 27, 16);
     let axial = signed(fields::number(terms, 31, 16));

@@ -12,11 +12,11 @@ number-requires c κs = search needs
 less-one-requires : tie.Need-less-one-requires
 less-one-requires c κs = search needs
 
+source-address-requires : tie.Need-source-address-requires
+source-address-requires c κs = search needs
+
 number-requires-2 : tie.Need-number-requires-2
 number-requires-2 c κs = search needs
-
-number-requires-3 : tie.Need-number-requires-3
-number-requires-3 c κs = search needs
 
 add-t8 : tie.Need-add-t8
 add-t8 c = search needs
@@ -24,8 +24,8 @@ add-t8 c = search needs
 add-t10 : tie.Need-add-t10
 add-t10 c = search needs
 
-number-requires-4 : tie.Need-number-requires-4
-number-requires-4 c κs = search needs
+number-requires-3 : tie.Need-number-requires-3
+number-requires-3 c κs = search needs
 
 row-stride-requires : tie.Need-row-stride-requires
 row-stride-requires c κs = search needs
@@ -39,10 +39,10 @@ is-set-requires c κs = search needs
 returns : tie.Need-returns
 unfolding bytesOf
 returns c =
-    let skip : c .before .before .before .number3 .result ≡ sourceSkip (c .before .before .before .before .before .before .before .args .t1) = c .before .before .before .number3 .ensures in
+    let skip : c .before .before .before .number2 .result ≡ sourceSkip (c .before .before .before .before .before .before .before .args .t1) = c .before .before .before .number2 .ensures in
     let last : c .before .before .before .before .before .less-one .result ≡ width (c .before .before .before .before .before .before .before .args .t1) - 1 = rw (← c .before .before .before .before .before .before .number .ensures) (c .before .before .before .before .before .less-one .ensures) in
     let y : c .is-set .result ≡ yNegative (c .before .before .before .before .before .before .before .args .t1) = c .is-set .ensures in
-    rw (c .before .before .before .before .number2 .ensures, skip, last, c .before .before .number4 .ensures, c .before .row-stride .ensures, y)
+    rw (c .before .before .before .before .source-address .ensures, skip, last, c .before .before .number3 .ensures, c .before .row-stride .ensures, y)
 
 pub bytes-of-spec : {M : Type 1} → statement M
 bytes-of-spec =
@@ -50,11 +50,11 @@ bytes-of-spec =
     (tie.spec
     number-requires
     less-one-requires
+    source-address-requires
     number-requires-2
-    number-requires-3
     add-t8
     add-t10
-    number-requires-4
+    number-requires-3
     row-stride-requires
     array-read-is-set
     is-set-requires

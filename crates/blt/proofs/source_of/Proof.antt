@@ -26,11 +26,11 @@ returns-2 : tie.Need-returns-2
 unfolding bltOf sourceOf
 returns-2 c = rw (eq-eqb _ _ (sym (c .before .before .before .before .bits .ensures) ∙ c .before .before .before .if1 .left), sym (c .before .before .is-mono .ensures) ∙ c .before .if2 .taken, c .mono-source-of .ensures)
 
+source-address-requires : tie.Need-source-address-requires
+source-address-requires c κs = search needs
+
 number-requires : tie.Need-number-requires
 number-requires c κs = search needs
-
-number-requires-2 : tie.Need-number-requires-2
-number-requires-2 c κs = search needs
 
 rectangle-of-requires : tie.Need-rectangle-of-requires
 rectangle-of-requires c κs = search needs
@@ -38,8 +38,8 @@ rectangle-of-requires c κs = search needs
 returns-3 : tie.Need-returns-3
 unfolding bltOf sourceOf
 returns-3 c =
-    let stride : c .before .number2 .result ≡ sourceStride (c .before .before .before .before .before .before .before .args .t1) = c .before .number2 .ensures in
-    rw (eq-eqb _ _ (sym (c .before .before .before .before .before .before .bits .ensures) ∙ c .before .before .before .before .before .if1 .left), sym (c .before .before .before .before .is-mono .ensures) ∙ c .before .before .before .if2 .left, c .rectangle-of .ensures, c .before .before .number .ensures, stride)
+    let stride : c .before .number .result ≡ sourceStride (c .before .before .before .before .before .before .before .args .t1) = c .before .number .ensures in
+    rw (eq-eqb _ _ (sym (c .before .before .before .before .before .before .bits .ensures) ∙ c .before .before .before .before .before .if1 .left), sym (c .before .before .before .before .is-mono .ensures) ∙ c .before .before .before .if2 .left, c .rectangle-of .ensures, c .before .before .source-address .ensures, stride)
 
 pub source-of-spec : {M : Type 1} → statement M
 source-of-spec =
@@ -51,7 +51,7 @@ source-of-spec =
     is-mono-requires
     mono-source-of-requires
     returns-2
+    source-address-requires
     number-requires
-    number-requires-2
     rectangle-of-requires
     returns-3)

@@ -40,11 +40,11 @@ bad-channel3-requires c κs = search needs
 returns-5 : tie.Need-returns-5
 returns-5 c = rw (sym (c .before .before .before .bad-source .ensures) ∙ c .before .before .if4 .left, sym (c .before .bad-channel3 .ensures) ∙ c .if5 .taken, ← c .before .before .before .before .before .before .before .before .before .bits .ensures .0, ne-eqb _ _ (c .before .before .before .before .before .before .before .before .if1 .left), ← c .before .before .before .before .before .before .before .bits2 .ensures .0, ne-eqb _ _ (c .before .before .before .before .before .before .if2 .left), ← c .before .before .before .before .before .bits3 .ensures .0, ne-eqb _ _ (c .before .before .before .before .if3 .left))
 
-bad-bits-requires : tie.Need-bad-bits-requires
-bad-bits-requires c κs = search needs
+inverts-pattern-requires : tie.Need-inverts-pattern-requires
+inverts-pattern-requires c κs = search needs
 
 returns-6 : tie.Need-returns-6
-returns-6 c = rw (sym (c .before .before .before .before .bad-source .ensures) ∙ c .before .before .before .if4 .left, sym (c .before .before .bad-channel3 .ensures) ∙ c .before .if5 .left, ← c .before .before .before .before .before .before .before .before .before .before .bits .ensures .0, ne-eqb _ _ (c .before .before .before .before .before .before .before .before .before .if1 .left), ← c .before .before .before .before .before .before .before .before .bits2 .ensures .0, ne-eqb _ _ (c .before .before .before .before .before .before .before .if2 .left), ← c .before .before .before .before .before .before .bits3 .ensures .0, ne-eqb _ _ (c .before .before .before .before .before .if3 .left)) (c .bad-bits .ensures)
+returns-6 c = rw (sym (c .before .before .before .before .bad-source .ensures) ∙ c .before .before .before .if4 .left, sym (c .before .before .bad-channel3 .ensures) ∙ c .before .if5 .left, ← c .before .before .before .before .before .before .before .before .before .before .bits .ensures .0, ne-eqb _ _ (c .before .before .before .before .before .before .before .before .before .if1 .left), ← c .before .before .before .before .before .before .before .before .bits2 .ensures .0, ne-eqb _ _ (c .before .before .before .before .before .before .before .if2 .left), ← c .before .before .before .before .before .before .bits3 .ensures .0, ne-eqb _ _ (c .before .before .before .before .before .if3 .left)) (c .inverts-pattern .ensures)
 
 pub bad-blt-modes-spec : {M : Type 1} → statement M
 bad-blt-modes-spec =
@@ -62,5 +62,5 @@ bad-blt-modes-spec =
     returns-4
     bad-channel3-requires
     returns-5
-    bad-bits-requires
+    inverts-pattern-requires
     returns-6)

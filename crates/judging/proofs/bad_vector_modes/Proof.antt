@@ -28,11 +28,11 @@ is-set-requires c κs = search needs
 returns-3 : tie.Need-returns-3
 returns-3 c = rw (← c .before .before .before .before .before .bits .ensures .0, eq-eqb _ _ (c .before .before .before .before .if1 .left), sym (c .before .before .before .has-source-bits .ensures) ∙ c .before .before .if2 .left, sym (c .before .is-set .ensures) ∙ c .if3 .taken)
 
-bad-bits-requires : tie.Need-bad-bits-requires
-bad-bits-requires c κs = search needs
+inverts-pattern-requires : tie.Need-inverts-pattern-requires
+inverts-pattern-requires c κs = search needs
 
 returns-4 : tie.Need-returns-4
-returns-4 c = rw (← c .before .before .before .before .before .before .bits .ensures .0, eq-eqb _ _ (c .before .before .before .before .before .if1 .left), sym (c .before .before .before .before .has-source-bits .ensures) ∙ c .before .before .before .if2 .left, sym (c .before .before .is-set .ensures) ∙ c .before .if3 .left) (c .bad-bits .ensures)
+returns-4 c = rw (← c .before .before .before .before .before .before .bits .ensures .0, eq-eqb _ _ (c .before .before .before .before .before .if1 .left), sym (c .before .before .before .before .has-source-bits .ensures) ∙ c .before .before .before .if2 .left, sym (c .before .before .is-set .ensures) ∙ c .before .if3 .left) (c .inverts-pattern .ensures)
 
 pub bad-vector-modes-spec : {M : Type 1} → statement M
 bad-vector-modes-spec =
@@ -46,5 +46,5 @@ bad-vector-modes-spec =
     array-read-is-set
     is-set-requires
     returns-3
-    bad-bits-requires
+    inverts-pattern-requires
     returns-4)

@@ -14,14 +14,14 @@ returns : tie.Need-returns
 unfolding vectorOf
 returns c =
     let v = vectorOf (c .before .before .before .before .before .before .before .before .before .before .before .before .before .before .before .args .t1) in
-    let axial : toZ w16 (ofZ w16 (c .before .before .before .before .before .before .before .signed .result)) ≡ v .axial = toZ-ofZ w16 (c .before .before .before .before .before .before .before .signed .result) (search needs) ∙ c .before .before .before .before .before .before .before .signed .ensures ∙ ap signed16 (c .before .before .before .before .before .before .before .before .number4 .ensures .0) in
-    let diagonal : toZ w16 (ofZ w16 (c .before .before .before .before .before .signed2 .result)) ≡ v .diagonal = toZ-ofZ w16 (c .before .before .before .before .before .signed2 .result) (search needs) ∙ c .before .before .before .before .before .signed2 .ensures ∙ ap signed16 (c .before .before .before .before .before .before .number5 .ensures .0) in
-    let initial : toZ w16 (ofZ w16 (c .before .before .before .signed3 .result)) ≡ v .initial = toZ-ofZ w16 (c .before .before .before .signed3 .result) (search needs) ∙ c .before .before .before .signed3 .ensures ∙ ap signed16 (c .before .before .before .before .number6 .ensures .0) in
+    let axial : toZ w16 (ofZ w16 (c .before .before .before .before .before .before .before .signed .result)) ≡ v .axial = toZ-ofZ w16 (c .before .before .before .before .before .before .before .signed .result) (search needs) ∙ c .before .before .before .before .before .before .before .signed .ensures ∙ ap signed16 (c .before .before .before .before .before .before .before .before .number3 .ensures .0) in
+    let diagonal : toZ w16 (ofZ w16 (c .before .before .before .before .before .signed2 .result)) ≡ v .diagonal = toZ-ofZ w16 (c .before .before .before .before .before .signed2 .result) (search needs) ∙ c .before .before .before .before .before .signed2 .ensures ∙ ap signed16 (c .before .before .before .before .before .before .number4 .ensures .0) in
+    let initial : toZ w16 (ofZ w16 (c .before .before .before .signed3 .result)) ≡ v .initial = toZ-ofZ w16 (c .before .before .before .signed3 .result) (search needs) ∙ c .before .before .before .signed3 .ensures ∙ ap signed16 (c .before .before .before .before .number5 .ensures .0) in
     λ t. record {
       depth = (c .before .before .before .before .before .before .before .before .before .before .before .before .before .depth-of .ensures ∙ ap (λ (x : ℕ). depthOf (formatOf x)) (c .before .before .before .before .before .before .before .before .before .before .before .before .before .before .bits .ensures .0)) t;
-      length = c .before .before .before .before .before .before .before .before .before .number3 .ensures .0 t;
-      offset = c .before .before .before .before .before .before .before .before .before .before .before .number .ensures .0 t;
-      stride = c .before .before .before .before .before .before .before .before .before .before .number2 .ensures .0 t;
+      length = c .before .before .before .before .before .before .before .before .before .number2 .ensures .0 t;
+      offset = c .before .before .before .before .before .before .before .before .before .before .before .destination-address .ensures t;
+      stride = c .before .before .before .before .before .before .before .before .before .before .number .ensures .0 t;
       axial = axial t;
       diagonal = diagonal t;
       initial = initial t;
@@ -39,5 +39,5 @@ vector-of-spec =
     (tie.spec
     (search needs) (search needs) (search needs) (search needs) (search needs) (search needs) (search needs) (search needs)
     (search needs) (search needs) (search needs) (search needs) (search needs) (search needs) (search needs) (search needs)
-    (search needs) (search needs) (search needs) (search needs) (search needs) (search needs) (search needs)
+    (search needs) (search needs) (search needs) (search needs) (search needs) (search needs)
     returns)
