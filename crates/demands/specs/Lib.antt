@@ -10,3 +10,5 @@ pub mod Progress
 pub mod Demand3
 pub mod Night
 pub mod Splits
+pub mod Raised
+pub mod Screens
