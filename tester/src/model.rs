@@ -1,7 +1,7 @@
-//! A second drawing engine, written from document 01 and requests W1, W2, W4 and W5 of document 02, to be read beside them.
+//! A second drawing engine, written from document 01 and requests W1, W2, W4, W5 and W6 of document 02, to be read beside them.
 //!
 //! It is slow on purpose: it works unit by unit, finds the bounds by going through every byte of every pixel, and does the raster
-//! operation bit by bit. The quotations are document 01's; W1's, W2's, W4's, W5's and the data book's (000) are named.
+//! operation bit by bit. The quotations are document 01's; W1's, W2's, W4's, W5's, W6's and the data book's (000) are named.
 
 // ---- Registers ------------------------------------------------------------------------------------------------------------------
 
@@ -168,9 +168,9 @@ pub fn room_of(state: &State) -> u32 {
 
 // ---- Calls ----------------------------------------------------------------------------------------------------------------------
 
-/// W4: "Number 1 now refuses rings below 1,024"
-const RING_LENGTHS: std::ops::RangeInclusive<u32> = 1_024..=16_384;
-const FRAME_LENGTHS: std::ops::RangeInclusive<u32> = 1..=16_777_216;
+/// W4: "Number 1 now refuses rings below 1,024"; W6: "Raise number 2's upper limit to 67,108,864 bytes and number 1's to 262,144 words"
+const RING_LENGTHS: std::ops::RangeInclusive<u32> = 1_024..=262_144;
+const FRAME_LENGTHS: std::ops::RangeInclusive<u32> = 1..=67_108_864;
 
 /// "After setup all registers, pointers and the completion number are zero"; W4: "the table, zero after setup"
 pub fn setup(ring_len: u32, frame_len: u32) -> (State, Answer) {
@@ -225,6 +225,7 @@ fn data_fit(state: &State, place: &Place) -> bool {
             0 <= before
                 && (before..before + i64::from(count)).contains(&next)
                 && data_count_good(state, count)
+                && count <= MOST_DATA
                 && !w_misplaced(state, w, length)
                 && whole(state, w, length)
         }
@@ -642,6 +643,9 @@ fn data_count_good(state: &State, count: u32) -> bool {
     (1..=state.ring_len - 3).contains(&count)
 }
 
+/// The largest count that DCOUNT's 16 bits can say, whatever the ring: a saved count above it is of no data command.
+const MOST_DATA: u32 = 65_535;
+
 /// Header and count word, then the data.
 pub fn data_length(count: u32) -> u32 {
     2 + count
@@ -713,9 +717,7 @@ pub fn judge(kind: Kind, registers: &Registers, frame_len: u32) -> u32 {
     if pattern_inversion {
         return 24;
     }
-    if registers[BASE_OFFSET] != 0 {
-        return 24;
-    }
+    // W6: "Number 24 stops covering BASE_OFFSET."
 
     // 25: "width, height or vector length 0"
     if pixel_count(kind, registers) == 0 {
@@ -727,7 +729,7 @@ pub fn judge(kind: Kind, registers: &Registers, frame_len: u32) -> u32 {
         return 26;
     }
 
-    // 27: "some byte of some destination pixel lies outside frame memory"
+    // 27: "some byte of some destination pixel lies outside frame memory", its base added
     let inside = |first: i64, bytes: i64| (0..bytes).all(|byte| (0..i64::from(frame_len)).contains(&(first + byte)));
     let destinations_inside = match kind {
         Kind::Blt => (0..pixel_count(kind, registers)).all(|k| inside(blt_pixel(registers, depth, k).destination, depth)),
@@ -836,6 +838,30 @@ pub fn source_offset(registers: &Registers) -> i64 {
     i64::from(field(registers[SRC_OFFSET], 23, 0))
 }
 
+/// W6: "the fields and granule of 000". 000, 6.4.2.16: "Each base defines a 16 MB region that begins on a 4 MB boundary." What it says there
+/// of wrapping at the region's end is void.
+const GRANULE: i64 = 4_194_304;
+
+/// DBASE
+pub fn destination_base(registers: &Registers) -> i64 {
+    GRANULE * i64::from(field(registers[BASE_OFFSET], 31, 22))
+}
+
+/// SBASE. Channel 3's base, 11:2, is used by nothing yet: its pattern mode reads the table. 1:0 are reserved.
+pub fn source_base(registers: &Registers) -> i64 {
+    GRANULE * i64::from(field(registers[BASE_OFFSET], 21, 12))
+}
+
+/// W6: "each base is added to its own channel's offset"; all 24 bits of the offset count
+pub fn destination_start(registers: &Registers) -> i64 {
+    destination_base(registers) + destination_offset(registers)
+}
+
+/// Of a source in frame memory; the host's has no base.
+pub fn source_start(registers: &Registers) -> i64 {
+    source_base(registers) + source_offset(registers)
+}
+
 /// SRC_OFFSET's XLSBS: "Offset within byte to first monochrome pixel" (000, 6.4.2.2)
 pub fn source_xlsbs(registers: &Registers) -> i64 {
     i64::from(field(registers[SRC_OFFSET], 28, 26))
@@ -891,11 +917,11 @@ pub fn blt_pixel(registers: &Registers, depth: i64, k: i64) -> BltPixel {
 
     // "Source pixels go the same way with their own offset and stride." 000, 6.4.2.4, for mono too: "Adding the GP_STRIDE to the
     // OFFSET gives the byte address for the first pixel of the next line of a BLT."
-    let by_stride = source_offset(registers) + steps_y * source_stride(registers);
+    let by_stride = source_start(registers) + steps_y * source_stride(registers);
     // 000, 6.3.8.2, of byte-packed rows: "after WIDTH pixels have been transferred, skips the remaining bits in the byte plus the number
     // specified in XLSBs, and begins the next line at that location"
     let row_bits = source_xlsbs(registers) + width(registers);
-    let packed = source_offset(registers) + j * ((row_bits + 7) / 8);
+    let packed = source_start(registers) + j * ((row_bits + 7) / 8);
     // 000, 6.4.2.4: "the XLSBs [...] are used to index into the first byte of every line"; 6.3.8.1: "the left-most pixels are in the
     // most significant bits of the byte"
     let from_row = source_xlsbs(registers) + i;
@@ -908,7 +934,7 @@ pub fn blt_pixel(registers: &Registers, depth: i64, k: i64) -> BltPixel {
     };
 
     BltPixel {
-        destination: destination_offset(registers) + to_first_byte + steps_x * depth + steps_y * destination_stride(registers),
+        destination: destination_start(registers) + to_first_byte + steps_x * depth + steps_y * destination_stride(registers),
         source,
         source_bytes,
         source_bit,
@@ -1127,7 +1153,7 @@ pub fn vector_pixels(registers: &Registers, depth: i64) -> VectorPixels {
     let signed = |step: i64, positive: u32| if positive == 1 { step } else { -step };
     VectorPixels {
         left: pixel_count(Kind::Vector, registers),
-        position: destination_offset(registers),
+        position: destination_start(registers),
         error: initial_error(registers),
         axial: axial(registers),
         diagonal: diagonal(registers),

@@ -1,4 +1,4 @@
-//! Document 01's shop cases and its replay example, with rings of 1,024 words as W4 restates them, and cases of requests W1 to W5, asked of
+//! Document 01's shop cases and its replay example, with rings of 1,024 words as W4 restates them, and cases of requests W1 to W6, asked of
 //! the model. Run by `rustc --test`.
 
 use crate::model::*;
@@ -1258,6 +1258,304 @@ fn row_3_of_data() {
     assert_eq!(restart(stopped).1.word, Word::Refused(3));
 }
 
+// ---- W6: bases, large memory ----------------------------------------------------------------------------------------------------
+
+const MIB: i64 = 1 << 20;
+const GRANULE: i64 = 4 * MIB;
+
+/// BASE_OFFSET with these bases of destination, source and channel 3.
+fn bases(destination: u32, source: u32, channel_3: u32) -> u32 {
+    destination << 22 | source << 12 | channel_3 << 2
+}
+
+/// A vector with every enable set; registers that are not named are 0.
+fn vector(values: &[(usize, u32)]) -> Vec<u32> {
+    let mut words = vec![1 << 29 | 0x1FFF];
+    for register in VECTOR_WORDS {
+        words.push(values.iter().find(|(named, _)| *named == register).map_or(0, |(_, value)| *value));
+    }
+    words
+}
+
+/// Registers of a BLT of one row at 8 bpp, a plain copy or, without a source, a fill.
+fn row_registers(width: u32, values: &[(usize, u32)]) -> Registers {
+    font_registers(&[&[(WID_HEIGHT, width << 16 | 1)], values].concat())
+}
+
+#[test]
+fn raised_limits() {
+    for (ring_len, frame_len, wanted) in [
+        (16_385, 1, 0),
+        (262_144, 1, 0),
+        (262_145, 1, 1),
+        (1_024, 16_777_217, 0),
+        (1_024, 67_108_864, 0),
+        (1_024, 67_108_865, 2),
+        (262_144, 67_108_864, 0),
+        (262_145, 67_108_865, 1),
+    ] {
+        let (state, answer) = setup(ring_len, frame_len);
+        if wanted == 0 {
+            assert_eq!((answer.word, answer.room, fit(&state)), (Word::Zero, ring_len - 1, true));
+        } else {
+            assert_eq!((answer.word, state), (Word::Refused(wanted), ZEROS));
+        }
+        assert_eq!(fit(&State { ring_len, frame_len, ..ZEROS }), wanted == 0);
+    }
+    // pointers up to the last word
+    let state = State { read: 262_143, write: 262_142, ring_len: 262_144, frame_len: 1, ..ZEROS };
+    assert_eq!((waiting(&state), room(state).1.room), (262_143, 0));
+    assert_eq!(publish(state, 262_143).1.word, Word::Refused(6));
+    assert_eq!(publish(state, 262_144).1.word, Word::Refused(5));
+}
+
+/// The same words twice, with bases 0 and 1: two screens of 4 MiB.
+#[test]
+fn two_screens() {
+    let screen = |base: u32, colour: u32| {
+        let values = [
+            (RASTER_MODE, 6 << 28 | 0xF0),
+            (DST_OFFSET, 0x1234),
+            (STRIDE, 2_048),
+            (WID_HEIGHT, 3 << 16 | 2),
+            (PAT_COLOR_0, colour),
+            (BASE_OFFSET, bases(base, 0, 0)),
+        ];
+        blt(DRAWING_BLT, &values)
+    };
+    let words = [screen(0, 0xA1B1), screen(1, 0xA2B2)].concat();
+    let mut frame = vec![0; 2 * GRANULE as usize];
+    assert_eq!(draw(&words, &mut frame), 0);
+    let mut wanted = vec![0; 2 * GRANULE as usize];
+    for (first, pixel) in [(0, [0xB1, 0xA1]), (GRANULE as usize, [0xB2, 0xA2])] {
+        for row in [0, 2_048] {
+            wanted[first + 0x1234 + row..][..6].copy_from_slice(&[pixel; 3].concat());
+        }
+    }
+    assert!(frame == wanted);
+}
+
+/// The last byte of 64 MiB by base 15 and by each lower base that reaches it; one byte further is 27.
+#[test]
+fn the_last_byte_of_64_mib() {
+    let mut frame = vec![0; 67_108_864];
+    for (i, base) in (12..=15).enumerate() {
+        let offset = (64 * MIB - 1 - GRANULE * i64::from(base)) as u32;
+        let colour = 0x11 * (i as u32 + 1);
+        let values = |offset: u32| {
+            [(RASTER_MODE, 0xF0), (DST_OFFSET, offset), (WID_HEIGHT, 1 << 16 | 1), (PAT_COLOR_0, colour), (BASE_OFFSET, bases(base, 0, 0))]
+        };
+        assert_eq!(draw(&blt(DRAWING_BLT, &values(offset)), &mut frame), 0);
+        assert_eq!(frame[67_108_862..], [0, colour as u8]);
+        if base > 12 {
+            assert_eq!(draw(&blt(DRAWING_BLT, &values(offset + 1)), &mut frame), 27);
+        }
+        assert_eq!(frame[0], 0);
+    }
+}
+
+/// Never reduced: neither to the frame's length, nor to a region of 16 MiB, nor to 32 bits.
+#[test]
+fn far_bases() {
+    let last = 0xFF_FFFF;
+    for (base, offset, frame_len, wanted) in [
+        (1_023, 0, 67_108_864, 27),
+        (1_023, GRANULE as u32, 67_108_864, 27),
+        (1_023, last, 67_108_864, 27),
+        (1_020, last, 67_108_864, 27),
+        (16, 0, 67_108_864, 27),
+        (15, 0, 67_108_864, 0),
+        (4, 0, 16_777_216, 27),
+        (3, 4_194_303, 16_777_216, 0),
+        (3, 4_194_304, 16_777_216, 27),
+        (0, last, 16_777_216, 0),
+        (1, last, 16_777_216, 27),
+        (1, last, 20_971_520, 0),
+        (1, last, 20_971_519, 27),
+        (12, last, 67_108_864, 0),
+        (13, last, 67_108_864, 27),
+    ] {
+        let by_destination = row_registers(1, &[(DST_OFFSET, offset), (BASE_OFFSET, bases(base, 0, 0))]);
+        assert_eq!(judge(Kind::Blt, &by_destination, frame_len), wanted, "base {base}, offset {offset}");
+        let mut registers = by_destination;
+        registers[VEC_LEN] = 1 << 16;
+        registers[VEC_ERR] = 0;
+        assert_eq!(judge(Kind::Vector, &registers, frame_len), wanted);
+        for mode in [0, UNPACKED, BYTE_PACKED] {
+            let values = [(SRC_OFFSET, offset), (BLT_MODE, mode | FRAME_MEMORY), (BASE_OFFSET, bases(0, base, 0))];
+            let by_source = row_registers(1, &values);
+            assert_eq!(judge(Kind::Blt, &by_source, frame_len), if wanted == 0 { 0 } else { 28 });
+        }
+    }
+    // across a region's end, and back before its first byte: on in memory
+    let mut frame = vec![0; 20 * MIB as usize];
+    for (mode, base, offset, first) in [(0, 0, last - 1, 16 * MIB - 2), (X_NEGATIVE, 1, 1, GRANULE - 2)] {
+        let values = [(RASTER_MODE, 0xF0), (DST_OFFSET, offset), (WID_HEIGHT, 4 << 16 | 1), (PAT_COLOR_0, 0x77), (BLT_MODE, mode)];
+        let values = [&values[..], &[(BASE_OFFSET, bases(base, 0, 0))]].concat();
+        assert_eq!(draw(&blt(DRAWING_BLT, &values), &mut frame), 0);
+        assert_eq!(frame[first as usize - 1..first as usize + 5], [0, 0x77, 0x77, 0x77, 0x77, 0]);
+    }
+    assert_eq!((frame[0], frame[1], frame[20 * MIB as usize - 1]), (0, 0, 0));
+}
+
+/// 28 just inside and just outside: in 6 MiB, 2 MiB behind base 1.
+#[test]
+fn source_bases_and_28() {
+    let frame_len = 6 * MIB as u32;
+    let end = 2 * MIB as u32;
+    for (raster, mode, xlsbs, width, bytes) in [
+        (0xCC, 0, 0, 5, 5),
+        (6 << 28 | 0xCC, 0, 0, 5, 10),
+        (8 << 28 | 0xF0, 0, 0, 5, 20),
+        (0xCC, UNPACKED, 3, 13, 2),
+        (8 << 28 | 0xCC, BYTE_PACKED, 3, 14, 3),
+    ] {
+        for (offset, wanted) in [(end - bytes, 0), (end - bytes + 1, 28), (end, 28)] {
+            let values = [
+                (RASTER_MODE, raster),
+                (SRC_OFFSET, xlsbs << 26 | offset),
+                (BLT_MODE, mode | FRAME_MEMORY),
+                (BASE_OFFSET, bases(0, 1, 0)),
+            ];
+            assert_eq!(judge(Kind::Blt, &row_registers(width, &values), frame_len), wanted, "raster {raster:x}, mode {mode:x}");
+            // by the destination's base it lies elsewhere
+            let values = [&values[..3], &[(BASE_OFFSET, bases(1, 0, 0))]].concat();
+            assert_eq!(judge(Kind::Blt, &row_registers(width, &values), frame_len), 0);
+        }
+    }
+}
+
+/// From one base into another: a copy and a font, bytes and bits as they stand there.
+#[test]
+fn from_base_to_base() {
+    let mut frame = vec![0; 3 * GRANULE as usize];
+    let (from, to) = (2 * GRANULE as usize + 100, GRANULE as usize + 50);
+    frame[from..from + 3].copy_from_slice(&[0b1010_0000, 2, 3]);
+    let values = [(DST_OFFSET, 50), (SRC_OFFSET, 100), (BASE_OFFSET, bases(1, 2, 0))];
+    let copy = [&values[..], &[(RASTER_MODE, 0xCC), (WID_HEIGHT, 3 << 16 | 1), (BLT_MODE, FRAME_MEMORY)]].concat();
+    assert_eq!(draw(&blt(DRAWING_BLT, &copy), &mut frame), 0);
+    assert_eq!(frame[to - 1..to + 4], [0, 0b1010_0000, 2, 3, 0]);
+    for mode in [UNPACKED, BYTE_PACKED] {
+        let font = [
+            &values[..],
+            &[(RASTER_MODE, 0xCC), (WID_HEIGHT, 4 << 16 | 1), (SRC_COLOR_FG, FG), (SRC_COLOR_BG, BG), (BLT_MODE, mode | FRAME_MEMORY)],
+        ]
+        .concat();
+        frame[to..to + 4].fill(0);
+        assert_eq!(draw(&blt(DRAWING_BLT, &font), &mut frame), 0);
+        assert_eq!(frame[to..to + 4], [FG as u8, BG as u8, FG as u8, BG as u8]);
+    }
+    assert_eq!(frame[from..from + 3], [0b1010_0000, 2, 3]);
+    // 16 bits with X negative: both offsets name the last byte of their first pixel
+    let back = [
+        (RASTER_MODE, 6 << 28 | 0xCC),
+        (DST_OFFSET, 1),
+        (SRC_OFFSET, 103),
+        (WID_HEIGHT, 2 << 16 | 1),
+        (BASE_OFFSET, bases(1, 2, 0)),
+        (BLT_MODE, X_NEGATIVE | FRAME_MEMORY),
+    ];
+    frame[from..from + 4].copy_from_slice(&[1, 2, 3, 4]);
+    assert_eq!(draw(&blt(DRAWING_BLT, &back), &mut frame), 0);
+    let first = GRANULE as usize;
+    assert_eq!(frame[first - 3..first + 3], [0, 1, 2, 3, 4, 0]);
+}
+
+/// Fields that a command does not use: channel 3's base and bits 1:0 always, the source's but for a source in frame memory.
+#[test]
+fn bases_without_effect() {
+    for idle in [1, 2, 3, bases(0, 0, 1), bases(0, 0, 1_023), 0xFFF] {
+        for source in [0, 1, 1_023] {
+            let base = idle | bases(0, source, 0);
+            let from_frame = row_registers(4, &[(BLT_MODE, FRAME_MEMORY), (BASE_OFFSET, base)]);
+            assert_eq!(judge(Kind::Blt, &from_frame, 16), if source == 0 { 0 } else { 28 });
+            for (raster, channel_3) in [(0xF0, 0), (0x5F0, 0), (COLOUR | 0xF0, 0), (0xF0, CH3_PATTERN)] {
+                let values = [
+                    (RASTER_MODE, raster),
+                    (DST_OFFSET, 3),
+                    (WID_HEIGHT, 4 << 16 | 1),
+                    (PAT_COLOR_0, 0x21),
+                    (PAT_COLOR_1, 0x43),
+                    (PAT_DATA_0, 0x50),
+                    (CH3_MODE_STR, channel_3),
+                ];
+                let with = |base: u32| {
+                    let load = vec![TABLE_LOAD | INDEX, 0x100, DATA | 1, 0x281E_140A];
+                    let words = [load, blt(DRAWING_BLT, &[&values[..], &[(BASE_OFFSET, base)]].concat())].concat();
+                    let mut frame = [0; 16];
+                    assert_eq!(draw(&words, &mut frame), 0);
+                    frame
+                };
+                assert_eq!(with(base), with(0));
+            }
+            // the host's words, mono and colour
+            for mode in [0, UNPACKED, BYTE_PACKED] {
+                let values = [(SRC_OFFSET, 1), (WID_HEIGHT, 3 << 16 | 1), (SRC_COLOR_FG, FG), (SRC_COLOR_BG, BG), (RASTER_MODE, 0xCC)];
+                let with = |base: u32| {
+                    let values = [&values[..], &[(BLT_MODE, mode | HOST), (BASE_OFFSET, base)]].concat();
+                    let mut frame = [0; 16];
+                    let words = [blt(DRAWING_BLT, &values), data(1, &[0x0403_A201])].concat();
+                    assert_eq!(draw(&words, &mut frame), 0);
+                    frame
+                };
+                assert_eq!(with(base), with(0));
+                assert_ne!(with(base), [0; 16]);
+            }
+            let mut frame = [0; 16];
+            let values = [(RASTER_MODE, 0xF0), (DST_OFFSET, 5), (VEC_LEN, 3 << 16 | 0xFFFF), (PAT_COLOR_0, 9), (VECTOR_MODE, 6)];
+            assert_eq!(draw(&vector(&[&values[..], &[(BASE_OFFSET, base)]].concat()), &mut frame), 0);
+            assert_eq!(frame, [0, 0, 0, 0, 0, 9, 9, 9, 0, 0, 0, 0, 0, 0, 0, 0]);
+        }
+    }
+}
+
+/// A vector with a base, up and to the left over a border of 4 MiB; the register stays for a BLT.
+#[test]
+fn vectors_with_a_base() {
+    let mut frame = vec![0; 2 * GRANULE as usize];
+    let values = [
+        (RASTER_MODE, 6 << 28 | 0xF0),
+        (DST_OFFSET, 2),
+        (STRIDE, 100),
+        (VEC_LEN, 3 << 16), // error 0: all steps are diagonal
+        (PAT_COLOR_0, 0x2211),
+        (BASE_OFFSET, bases(1, 0, 0)),
+    ];
+    let fill = blt(DRAWING_BLT & !(1 << 14), &[(RASTER_MODE, 0xF0), (DST_OFFSET, 7), (WID_HEIGHT, 1 << 16 | 1), (PAT_COLOR_0, 0x33)]);
+    assert_eq!(draw(&[vector(&values), fill].concat(), &mut frame), 0);
+    let mut wanted = vec![0; 2 * GRANULE as usize];
+    for at in [2, -100, -202] {
+        let at = (GRANULE + at) as usize;
+        wanted[at..at + 2].copy_from_slice(&[0x11, 0x22]);
+    }
+    wanted[GRANULE as usize + 7] = 0x33;
+    assert!(frame == wanted);
+}
+
+/// A data command of 65,535 words in the largest ring; bit 16 of its count word is reserved.
+#[test]
+fn counts_in_a_large_ring() {
+    let state = State { ring_len: 262_144, write: 262_143, ..after_blt() };
+    let mut ring = vec![0; 262_144];
+    for (count_word, wanted) in [(65_535, Unit::AcceptData), (1, Unit::AcceptData), (0, Unit::Refuse(32)), (65_536, Unit::Refuse(32))] {
+        (ring[17], ring[18]) = (DATA_COMMAND, count_word);
+        assert_eq!(next_unit(&state, &ring), wanted);
+    }
+    // row 3: all words wait, yet no data command has that count
+    for (count, wanted) in [(65_535, true), (65_536, false), (65_537, false), (131_072, false), (262_141, false), (262_142, false)] {
+        let place = Some(Place { kind: Kind::Blt, drawn: 0, data: Data::Fed { count, w: false, before: 0 } });
+        let saved = State { read: 17, write: 16, place, ..state };
+        assert_eq!(waiting(&saved), 262_143);
+        assert_eq!(fit(&saved), wanted, "count {count}");
+        assert_eq!(room(saved).1.word == Word::Refused(3), !wanted);
+    }
+    // the smallest ring in which the largest count is good, and one word less
+    for (ring_len, wanted) in [(65_538, true), (65_537, false)] {
+        let place = Some(Place { kind: Kind::Blt, drawn: 0, data: Data::Fed { count: 65_535, w: false, before: 0 } });
+        assert_eq!(fit(&State { ring_len, read: 17, write: 16, place, ..state }), wanted);
+    }
+}
+
 // ---- The ring and the programs --------------------------------------------------------------------------------------------------
 
 #[test]
@@ -1317,7 +1615,7 @@ fn completion_wraps() {
 #[test]
 fn rows_1_to_4() {
     for (ring_len, frame_len, wanted) in
-        [(0, 0, 1), (64, 1, 1), (1_023, 1, 1), (16_385, 0, 1), (1_024, 0, 2), (16_384, 16_777_217, 2)]
+        [(0, 0, 1), (64, 1, 1), (1_023, 1, 1), (262_145, 0, 1), (1_024, 0, 2), (262_144, 67_108_865, 2)]
     {
         let (state, answer) = setup(ring_len, frame_len);
         assert_eq!((state, answer), (ZEROS, Answer { word: Word::Refused(wanted), units: 0, room: 0 }));
