@@ -29,29 +29,29 @@ impl Rng {
         self.0.wrapping_mul(0x2545_F491_4F6C_DD1D)
     }
 
-    fn below(&mut self, n: u64) -> u64 {
+    pub fn below(&mut self, n: u64) -> u64 {
         (self.next() >> 16) % n
     }
 
     /// low to high, both included
-    fn between(&mut self, low: i64, high: i64) -> i64 {
+    pub fn between(&mut self, low: i64, high: i64) -> i64 {
         low + self.below((high - low + 1) as u64) as i64
     }
 
-    fn chance(&mut self, part: u64, whole: u64) -> bool {
+    pub fn chance(&mut self, part: u64, whole: u64) -> bool {
         self.below(whole) < part
     }
 
-    fn pick<T: Copy>(&mut self, list: &[T]) -> T {
+    pub fn pick<T: Copy>(&mut self, list: &[T]) -> T {
         list[self.below(list.len() as u64) as usize]
     }
 
-    fn bits(&mut self) -> u32 {
+    pub fn bits(&mut self) -> u32 {
         (self.next() >> 32) as u32
     }
 
     /// A word that nobody cleaned: often random, sometimes zeros or ones.
-    fn stale(&mut self) -> u32 {
+    pub fn stale(&mut self) -> u32 {
         match self.below(6) {
             0 => 0,
             1 => u32::MAX,
@@ -60,7 +60,7 @@ impl Rng {
     }
 
     /// A pattern's and a source's colour: often with all four pairs of their bits in every byte, so that all bits of a raster code come up.
-    fn two_colours(&mut self) -> (u32, u32) {
+    pub fn two_colours(&mut self) -> (u32, u32) {
         if self.chance(1, 2) {
             let turned = self.below(8) as u32;
             (0xF0F0_F0F0u32.rotate_left(turned), 0xCCCC_CCCCu32.rotate_left(turned))
@@ -70,7 +70,7 @@ impl Rng {
     }
 
     /// Bits that have no effect: mostly zero, else random under the mask.
-    fn idle(&mut self, mask: u32) -> u32 {
+    pub fn idle(&mut self, mask: u32) -> u32 {
         if self.chance(2, 5) {
             self.bits() & mask
         } else {
@@ -107,7 +107,7 @@ pub fn span(kind: Kind, registers: &Registers, source: bool) -> (i64, i64) {
     (low, high)
 }
 
-fn set_offset(registers: &mut Registers, register: usize, offset: i64) {
+pub fn set_offset(registers: &mut Registers, register: usize, offset: i64) {
     registers[register] = (registers[register] & 0xFF00_0000) | (offset as u32 & 0x00FF_FFFF);
 }
 
@@ -216,9 +216,9 @@ const XLSBS: u32 = 7 << 26;
 const SI: u32 = 1 << 13;
 const PI: u32 = 1 << 12;
 const ST: u32 = 1 << 11;
-const HOST: u32 = 2;
-const X_NEGATIVE: u32 = 1 << 9;
-const Y_NEGATIVE: u32 = 1 << 8;
+pub const HOST: u32 = 2;
+pub const X_NEGATIVE: u32 = 1 << 9;
+pub const Y_NEGATIVE: u32 = 1 << 8;
 
 fn set_source_mode(r: &mut Registers, code: u32) {
     r[BLT_MODE] = r[BLT_MODE] & !(3 << 6) | code << 6;
@@ -244,7 +244,7 @@ fn mono_width(rng: &mut Rng, xlsbs: i64) -> i64 {
 }
 
 /// New values for a BLT that is to be drawn. `most` is about how many pixels it may have.
-fn wish_blt(rng: &mut Rng, registers: &Registers, frame_len: i64, most: i64) -> Registers {
+pub fn wish_blt(rng: &mut Rng, registers: &Registers, frame_len: i64, most: i64) -> Registers {
     let mut r = *registers;
     r[RASTER_MODE] = raster_mode(rng, Kind::Blt, frame_len);
     let depth = model::bytes_per_pixel(&r).unwrap_or(1);
@@ -410,6 +410,20 @@ fn source_place(rng: &mut Rng, row: i64, depth: i64, stride: i64) -> i64 {
     rng.pick(&[-step, step]) + rows * stride
 }
 
+/// BASE_OFFSET's bits that have no effect on this command: channel 3's base and the reserved bits, and the source's base but for a source in
+/// frame memory. No other base fits in so small a memory.
+fn idle_bases(rng: &mut Rng, kind: Kind, r: &mut Registers) {
+    let from_frame = kind == Kind::Blt && model::source_selected(r);
+    let bits = if from_frame { 12 } else { 22 };
+    let all = (1 << bits) - 1;
+    r[BASE_OFFSET] = match rng.below(8) {
+        0 => all,
+        1 => 1 << rng.below(bits),
+        2 | 3 => rng.bits() & all,
+        _ => 0,
+    };
+}
+
 /// Registers that few BLTs read, or of which some bits are judged.
 fn idle_registers(rng: &mut Rng, r: &mut Registers) {
     for register in [SRC_COLOR_BG, CH3_OFFSET, CH3_WIDHI] {
@@ -426,7 +440,7 @@ fn idle_registers(rng: &mut Rng, r: &mut Registers) {
 }
 
 /// New values for a vector that is to be drawn.
-fn wish_vector(rng: &mut Rng, registers: &Registers, frame_len: i64, most: i64) -> Registers {
+pub fn wish_vector(rng: &mut Rng, registers: &Registers, frame_len: i64, most: i64) -> Registers {
     let mut r = *registers;
     r[RASTER_MODE] = raster_mode(rng, Kind::Vector, frame_len);
     let depth = model::bytes_per_pixel(&r).unwrap_or(1);
@@ -492,7 +506,7 @@ fn wish_vector(rng: &mut Rng, registers: &Registers, frame_len: i64, most: i64) 
 }
 
 /// New values for a BLT with host source that is to be drawn, but for its place: rows that end about a word's end, or of any length.
-fn wish_picture(rng: &mut Rng, registers: &Registers, frame_len: i64, most: i64) -> Registers {
+pub fn wish_picture(rng: &mut Rng, registers: &Registers, frame_len: i64, most: i64) -> Registers {
     let mut r = wish_blt(rng, registers, frame_len, most);
     let depth = model::bytes_per_pixel(&r).unwrap_or(1);
     let source_mode = rng.pick(&[0, 0, 1, 1, 2]);
@@ -546,7 +560,8 @@ fn wish_picture(rng: &mut Rng, registers: &Registers, frame_len: i64, most: i64)
 fn wish(rng: &mut Rng, kind: Kind, registers: &Registers, frame_len: u32, most: i64) -> Registers {
     let len = i64::from(frame_len);
     if kind == Kind::Blt && rng.chance(1, 2) {
-        let r = wish_short_way(rng, registers, len, most);
+        let mut r = wish_short_way(rng, registers, len, most);
+        idle_bases(rng, kind, &mut r);
         if model::judge(kind, &r, frame_len) == 0 {
             return r;
         }
@@ -574,6 +589,7 @@ fn wish(rng: &mut Rng, kind: Kind, registers: &Registers, frame_len: u32, most: 
         let keep_source = r[SRC_OFFSET] == registers[SRC_OFFSET];
         let settled = settle(rng, kind, &mut r, len, false)
             && (kind == Kind::Vector || !model::source_selected(&r) || keep_source || settle(rng, kind, &mut r, len, true));
+        idle_bases(rng, kind, &mut r);
         if settled && model::judge(kind, &r, frame_len) == 0 {
             return r;
         }
@@ -616,6 +632,15 @@ fn damage_channel_3(rng: &mut Rng, r: &mut Registers) {
     }
 }
 
+/// A base that is not 0: one bit, or any.
+fn some_base(rng: &mut Rng) -> u32 {
+    if rng.chance(2, 3) {
+        1 << rng.below(10)
+    } else {
+        rng.between(1, 1_023) as u32
+    }
+}
+
 /// Changes one field so that judging refuses by this number (or by a lower one, where that cannot be had).
 fn damage(rng: &mut Rng, kind: Kind, r: &mut Registers, frame_len: u32, number: u32) {
     match number {
@@ -639,8 +664,7 @@ fn damage(rng: &mut Rng, kind: Kind, r: &mut Registers, frame_len: u32, number: 
             }
             3 if kind == Kind::Blt => damage_channel_3(rng, r),
             3 => channel_3_pattern(rng, r),
-            4 => r[BASE_OFFSET] = if rng.chance(1, 4) { rng.bits() | 1 } else { 1 << rng.below(32) },
-            5 => {
+            4 | 5 => {
                 let mode = if kind == Kind::Blt { 3 } else { rng.pick(&[1, 2, 3]) };
                 r[RASTER_MODE] = r[RASTER_MODE] & !0x300 | mode << 8;
                 if kind == Kind::Blt && rng.chance(1, 2) {
@@ -686,12 +710,24 @@ fn damage(rng: &mut Rng, kind: Kind, r: &mut Registers, frame_len: u32, number: 
         }
         _ => {
             let source = number == 28;
+            let whole = model::judge(kind, r, frame_len) == 0;
+            if source || !rng.chance(1, 3) {
+                r[BASE_OFFSET] &= 0xFFF; // else the source's base may be too far as well
+            }
+            if number == 27 && whole && rng.chance(1, 4) {
+                r[BASE_OFFSET] |= some_base(rng) << 22;
+                return;
+            }
             if source {
                 let good = model::judge(kind, r, frame_len) == 0;
                 r[BLT_MODE] |= 1;
                 if good {
                     choose_source(rng, r, frame_len);
                 }
+            }
+            if source && whole && rng.chance(1, 3) && settle(rng, kind, r, i64::from(frame_len), true) {
+                r[BASE_OFFSET] |= some_base(rng) << 12;
+                return;
             }
             if number == 27 && kind == Kind::Blt {
                 r[BLT_MODE] |= rng.bits() & directions(r) & X_NEGATIVE;
@@ -715,7 +751,7 @@ fn damage(rng: &mut Rng, kind: Kind, r: &mut Registers, frame_len: u32, number: 
 }
 
 /// A command's words: the wished values where the registers differ, and elsewhere as it comes, stale words where enables are clear.
-fn emit(rng: &mut Rng, kind: Kind, registers: &Registers, wished: &Registers, draw: bool) -> Vec<u32> {
+pub fn emit(rng: &mut Rng, kind: Kind, registers: &Registers, wished: &Registers, draw: bool) -> Vec<u32> {
     let list = model::words_of(kind);
     let last = list.len() - 1;
     let mut header: u32 = if kind == Kind::Vector { 1 << 29 } else { 0 };
@@ -737,7 +773,7 @@ fn emit(rng: &mut Rng, kind: Kind, registers: &Registers, wished: &Registers, dr
     words
 }
 
-fn load(registers: &mut Registers, kind: Kind, words: &[u32]) {
+pub fn load(registers: &mut Registers, kind: Kind, words: &[u32]) {
     for (i, register) in model::words_of(kind).iter().enumerate() {
         if words[0] >> i & 1 == 1 {
             registers[*register] = words[i + 1];
@@ -751,7 +787,7 @@ const TABLE_LOAD: u32 = 2 << 29;
 const DATA_FOR_THE_TABLE: u32 = 3 << 29;
 
 /// A table load of random words at this index, or going on where the last one ended; the index register follows.
-fn table_load(rng: &mut Rng, registers: &mut Registers, index: Option<u32>, count: u32) -> Vec<u32> {
+pub fn table_load(rng: &mut Rng, registers: &mut Registers, index: Option<u32>, count: u32) -> Vec<u32> {
     let mut header = TABLE_LOAD | u32::from(index.is_some());
     if rng.chance(3, 4) {
         header |= 2; // the count word's enable, without effect
@@ -867,7 +903,7 @@ fn bad_table_load(rng: &mut Rng, registers: &Registers, number: u32) -> Vec<u32>
 const DATA: u32 = 3 << 29;
 
 /// A data command of random words.
-fn data_command(rng: &mut Rng, count: u32) -> Vec<u32> {
+pub fn data_command(rng: &mut Rng, count: u32) -> Vec<u32> {
     let mut header = DATA | u32::from(rng.chance(3, 4)); // the count word's enable, without effect
     if rng.chance(1, 6) {
         header |= 1 << 28;
@@ -879,7 +915,7 @@ fn data_command(rng: &mut Rng, count: u32) -> Vec<u32> {
 
 /// How many words each data command has for this BLT: all in one, one word each, a row each, or as it comes. The last may have more than are
 /// wanted.
-fn split(rng: &mut Rng, r: &Registers) -> Vec<u32> {
+pub fn split(rng: &mut Rng, r: &Registers) -> Vec<u32> {
     let total = 1 + model::word_of_pixel(r, model::pixel_count(Kind::Blt, r) - 1) as u32;
     let row = (total / model::height(r) as u32).max(1);
     let step = match rng.below(8) {
@@ -907,7 +943,9 @@ fn picture(rng: &mut Rng, registers: &mut Registers, frame_len: u32, most: i64, 
     for attempt in 0..6 {
         let len = i64::from(frame_len);
         let mut r = wish_picture(rng, registers, len, (most >> attempt).max(4));
-        if !settle(rng, Kind::Blt, &mut r, len, false) || model::judge(Kind::Blt, &r, frame_len) != 0 {
+        let settled = settle(rng, Kind::Blt, &mut r, len, false);
+        idle_bases(rng, Kind::Blt, &mut r);
+        if !settled || model::judge(Kind::Blt, &r, frame_len) != 0 {
             continue;
         }
         let counts = split(rng, &r);
@@ -1039,6 +1077,7 @@ fn bad_picture(rng: &mut Rng, registers: &Registers, frame_len: u32, ring_len: u
 fn refused_picture(rng: &mut Rng, registers: &Registers, frame_len: u32) -> Vec<u32> {
     let mut r = wish_picture(rng, registers, i64::from(frame_len), 40);
     settle(rng, Kind::Blt, &mut r, i64::from(frame_len), false);
+    idle_bases(rng, Kind::Blt, &mut r);
     let choice = rng.below(12);
     if choice < 8 {
         // a colour source
@@ -1069,7 +1108,7 @@ fn refused_picture(rng: &mut Rng, registers: &Registers, frame_len: u32) -> Vec<
 
 // ---- Lists of commands ----------------------------------------------------------------------------------------------------------
 
-fn some_kind(rng: &mut Rng) -> Kind {
+pub fn some_kind(rng: &mut Rng) -> Kind {
     if rng.chance(3, 5) {
         Kind::Blt
     } else {
@@ -1280,6 +1319,7 @@ pub fn recording(rng: &mut Rng) -> Vec<u8> {
     if ending == 1 && rng.chance(2, 3) {
         // a great many pixels on few bytes, cut by the budget
         let mut r = wish(rng, Kind::Blt, &registers, frame_len, 100);
+        r[BASE_OFFSET] &= 0xFFF;
         let mono = rng.chance(1, 2);
         r[BLT_MODE] = r[BLT_MODE] & !3 | u32::from(mono);
         if mono {

@@ -1,10 +1,11 @@
 //! How often each refusal, answer and kind of drawing came up. A name in the list that never came up fails the run.
 
+use crate::bases;
 use crate::cases::span;
 use crate::host::{self, mode_name};
 use crate::model::{self, field, Answer, Data, Kind, Pattern, Registers, SourceMode, State, Table, Word};
 use crate::model::{
-    BASE_OFFSET, BLT_MODE, CH3_MODE_STR, CH3_OFFSET, DST_OFFSET, PAT_COLOR_0, RASTER_MODE, SRC_COLOR_FG, SRC_OFFSET, VECTOR_MODE,
+    BLT_MODE, CH3_MODE_STR, CH3_OFFSET, DST_OFFSET, PAT_COLOR_0, RASTER_MODE, SRC_COLOR_FG, SRC_OFFSET, VECTOR_MODE,
     WID_HEIGHT,
 };
 use crate::programs::{Call, Watch};
@@ -13,7 +14,7 @@ use crate::tables::{self, Follow};
 use std::collections::BTreeMap;
 
 /// Refusals 3 and 4 are not here: the programs hand on the state that they were given and lend what they set up. What W3 needs at each
-/// depth is in `short_ways`, what W4 needs in `tables`, what W5 needs in `host`.
+/// depth is in `short_ways`, what W4 needs in `tables`, what W5 needs in `host`, what W6 needs in `bases` and `wide`.
 const NEEDED: &[(&str, &[&str])] = &[
     ("refusals", &["1", "2", "5", "6", "7", "21", "22", "23", "24", "25", "26", "27", "28", "29", "30", "31", "32"]),
     (
@@ -29,7 +30,7 @@ const NEEDED: &[(&str, &[&str])] = &[
             "24 byte-packed with X-", "24 byte-packed with Y-", "24 channel 3 without pattern mode", "24 channel 3 to the source",
             "24 channel 3 in another format", "24 channel 3 in another format of the same depth", "24 channel 3 with RO",
             "24 channel 3 with BGR", "24 channel 3 with PL", "24 channel 3 with PE", "24 channel 3 with HS", "24 channel 3 of a vector",
-            "24 channel 3's pattern of a vector", "24 BASE_OFFSET", "25 width", "25 height", "25 length", "26 axial", "26 diagonal",
+            "24 channel 3's pattern of a vector", "25 width", "25 height", "25 length", "26 axial", "26 diagonal",
             "27 BLT one byte before",
             "27 BLT one byte behind", "27 vector one byte before", "27 vector one byte behind", "28 colour one byte before",
             "28 colour one byte behind", "28 colour with a code that reads no source", "28 unpacked one byte before",
@@ -158,6 +159,7 @@ pub struct Counts {
     follow: Follow,
     pictures: host::Follow,
     host: host::Sets,
+    bases: bases::Sets,
     pub units: u64,
     /// which kind of command wrote registers 2 and 4 last, in this case
     wrote: [Option<Kind>; 2],
@@ -174,7 +176,7 @@ pub struct Counts {
 impl Counts {
     pub fn new() -> Counts {
         let mut count = BTreeMap::new();
-        for (_, names) in NEEDED.iter().chain(tables::NEEDED).chain(host::NEEDED) {
+        for (_, names) in NEEDED.iter().chain(tables::NEEDED).chain(host::NEEDED).chain(bases::NEEDED) {
             for name in *names {
                 count.insert(name.to_string(), 0);
             }
@@ -206,6 +208,7 @@ impl Counts {
             follow: Follow::new(),
             pictures: host::Follow::new(),
             host: host::Sets::new(),
+            bases: bases::Sets::new(),
             units: 0,
             wrote: [None, None],
             loaded: (0, 0),
@@ -247,7 +250,7 @@ impl Counts {
     /// Prints all counts; true if none is zero.
     pub fn report(&self) -> bool {
         let mut missing = Vec::new();
-        for (group, names) in NEEDED.iter().chain(tables::NEEDED).chain(host::NEEDED) {
+        for (group, names) in NEEDED.iter().chain(tables::NEEDED).chain(host::NEEDED).chain(bases::NEEDED) {
             println!("{group}:");
             for name in *names {
                 let count = self.count[*name];
@@ -294,6 +297,7 @@ impl Counts {
             ("29: reserved bits 28:16", &self.reserved_bits),
         ];
         sets.extend(self.host.all());
+        sets.extend(self.bases.all());
         let rows: Vec<String> = WAYS.iter().map(|way| format!("{way}: rows about 1, 8, 16, 32 and 64 bytes, and longer")).collect();
         sets.extend(rows.iter().zip(&self.row_lengths).map(|(name, set)| (name.as_str(), &set[..])));
         for (name, set) in sets {
@@ -342,6 +346,10 @@ impl Counts {
         }
         if number >= 23 && blt {
             self.hit_all(host::refused_blt(&r, number));
+        }
+        if number == 27 || number == 28 {
+            let kinds = self.bases.refused(kind, &r, before.frame_len, number);
+            self.hit_all(kinds);
         }
         match number {
             21 => {
@@ -482,6 +490,8 @@ impl Counts {
             let kinds = self.follow.draw(Kind::Blt, r, table, frame.len() as i64);
             self.hit_all(kinds);
             self.host.drawn(r);
+            let kinds = self.bases.drawn(Kind::Blt, r);
+            self.hit_all(kinds);
             self.row_length(r);
             for kind in short_ways::kinds(r, table, frame) {
                 self.hit(&short_ways::at_depth(r, &kind));
@@ -491,7 +501,8 @@ impl Counts {
 
     fn drawing(&mut self, kind: Kind, r: &Registers, table: &Table, frame: &[u8]) {
         let frame_len = frame.len() as i64;
-        let kinds = self.follow.draw(kind, r, table, frame_len);
+        let mut kinds = self.follow.draw(kind, r, table, frame_len);
+        kinds.extend(self.bases.drawn(kind, r));
         self.hit_all(kinds);
         let raster = r[RASTER_MODE];
         let depth = model::bytes_per_pixel(r).unwrap_or(1);
@@ -589,7 +600,7 @@ impl Counts {
         let (first, last) = span(kind, r, true);
         self.hit_if(first == 0, "blt source first byte");
         self.hit_if(last == frame_len - 1, "blt source last byte");
-        let apart = (model::source_offset(r) - model::destination_offset(r)).abs();
+        let apart = (model::source_start(r) - model::destination_start(r)).abs();
         if first <= high && low <= last && apart != 0 {
             self.hit(&format!("overlap {} bpp", 8 * depth));
             self.hit(&format!("overlap {way}"));
@@ -622,7 +633,7 @@ impl Counts {
             let (first, last) = span(Kind::Blt, r, true);
             self.hit_if(first == 0, &format!("{back} {y}, source from byte 0"));
             self.hit_if(last == frame_len - 1, &format!("{back} {y}, source to the last byte"));
-            let right = model::destination_offset(r) - model::source_offset(r);
+            let right = model::destination_start(r) - model::source_start(r);
             let alike = model::source_stride(r) == model::destination_stride(r);
             self.hit_if(alike && 0 < right && right < depth * model::width(r), &format!("{back} {y}, overlap to the right"));
         }
@@ -637,8 +648,8 @@ impl Counts {
             let name = format!("{number} X- {} bpp", 8 * depth);
             let drawn = model::judge(Kind::Blt, &as_in_document_01(r), frame_len) == 0;
             self.hit_if(drawn, &format!("{name}, drawn in document 01"));
-            let offset = if number == 27 { model::destination_offset(r) } else { model::source_offset(r) };
-            self.hit_if(offset < depth - 1, &format!("{name}, offset below a pixel's last byte"));
+            let start = if number == 27 { model::destination_start(r) } else { model::source_start(r) };
+            self.hit_if(start < depth - 1, &format!("{name}, offset below a pixel's last byte"));
         }
     }
 }
@@ -711,7 +722,7 @@ impl Counts {
         if last == frame_len - 1 {
             self.hit(&format!("{mode} font to the last byte"));
             self.hit_if((xlsbs + width) % 8 == 0, &format!("{mode} font to the last bit"));
-            let by_stride = model::source_offset(r) + (height - 1) * stride;
+            let by_stride = model::source_start(r) + (height - 1) * stride;
             if mode == "unpacked" {
                 self.hit_if(!back && by_stride + stride > frame_len, "unpacked font to the last byte, a stride past the end");
             } else {
@@ -905,7 +916,6 @@ fn reasons_for_24(kind: Kind, r: &Registers) -> Vec<&'static str> {
         (blt && third && faults[7], "24 channel 3 with HS"),
         (!blt && third && !good_pattern, "24 channel 3 of a vector"),
         (!blt && good_pattern, "24 channel 3's pattern of a vector"),
-        (r[BASE_OFFSET] != 0, "24 BASE_OFFSET"),
     ];
     let host_alone = if blt { host::reasons_for_24(r) } else { Vec::new() };
     reasons.into_iter().filter(|(holds, _)| *holds).map(|(_, name)| name).chain(host_alone).collect()

@@ -1,6 +1,7 @@
-//! What the programs replay, frame and trace must write for an input, by the model.
+//! What the programs replay, frame, trace and large must write for an input, by the model.
 
 use crate::model::{self, Answer, Kind, State, Word};
+use crate::stream::{self, Case};
 
 /// Told of what happens, so that the tester can count it.
 pub trait Watch {
@@ -151,6 +152,44 @@ fn trace_line(call: &str, answer: &Answer, state: &State) -> String {
         "call={call} answer={word} units={} room={} read={} write={} retired={} stop={} drawing={drawing}\n",
         answer.units, answer.room, state.read, state.write, state.completion, state.stop
     )
+}
+
+/// A case for large memory: by setup, one publish and one run, up to the first call that is refused, or by setup and a list of calls.
+pub fn large(case: &Case, watch: &mut dyn Watch) -> String {
+    let (mut state, answer) = model::setup(case.ring.len() as u32, case.frame_len);
+    watch.call(Call::Setup, &model::ZEROS, &case.ring, &answer, &state);
+    let mut frame = vec![0; case.frame_len as usize];
+    let (mut units, mut number) = (0, number_of(&answer, &state));
+    let draw = case.draw.map(|(position, budget)| [(stream::PUBLISH, position, 0), (stream::RUN, 0, budget)]);
+    for (kind, position, budget) in draw.as_ref().map_or(&case.calls[..], |calls| calls) {
+        if draw.is_some() && number != 0 {
+            break;
+        }
+        let before = state;
+        let (call, (after, answer)) = match *kind {
+            stream::PUBLISH => (Call::Publish(*position), model::publish(before, *position)),
+            stream::RUN => {
+                let mut seen =
+                    |before: &State, ring: &[u32], frame: &[u8], after: &State| watch.unit(before, ring, frame, after);
+                (Call::Run(*budget), model::run(before, &case.ring, &mut frame, *budget, &mut seen))
+            }
+            stream::ROOM => (Call::Room, model::room(before)),
+            _ => (Call::Restart, model::restart(before)),
+        };
+        watch.call(call, &before, &case.ring, &answer, &after);
+        state = after;
+        units += u64::from(answer.units);
+        number = number_of(&answer, &state);
+    }
+    stream::told(units, state.completion, draw.map(|_| number), &frame)
+}
+
+/// That of the refusal or of the stop, or 0.
+fn number_of(answer: &Answer, state: &State) -> u32 {
+    match answer.word {
+        Word::Refused(number) => number,
+        _ => state.stop,
+    }
 }
 
 /// The CRC-32 of zip and PNG, bit by bit.
