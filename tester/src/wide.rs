@@ -255,8 +255,14 @@ fn lap(rng: &mut Rng, turn: u64) -> String {
         Kind::Blt => Way::Fill,
         Kind::Vector => Way::Vector,
     };
-    let r = writer.wish(way);
-    let mut words = cases::emit(writer.rng, kind, &writer.registers, &r, true);
+    let mut r = writer.wish(way);
+    r[PAT_DATA_1] = writer.registers[PAT_DATA_1]; // so that one word at least need not be enabled
+    let mut words = loop {
+        let words = cases::emit(writer.rng, kind, &writer.registers, &r, true);
+        if (1..words.len()).any(|i| words[0] >> (i - 1) & 1 == 0) {
+            break words; // a word that is not enabled may be 0
+        }
+    };
     let mut before = Vec::new();
     if data {
         before = words;
@@ -274,9 +280,6 @@ fn lap(rng: &mut Rng, turn: u64) -> String {
     let shortest = if data { 2.max(words.len() as i64 - 16) } else { 1 };
     let free = |i: &usize| data || words[0] >> (i - 1) & 1 == 0 || words[*i] == 0;
     let places: Vec<usize> = (shortest as usize..words.len()).filter(free).collect();
-    if places.is_empty() {
-        return writer.end();
-    }
     let cut = writer.rng.pick(&places);
     words[cut] = 0;
     let first = LARGEST_RING - cut as u32 - before.len() as u32;
