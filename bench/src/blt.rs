@@ -1,6 +1,6 @@
 //! A BLT: what its registers describe, its bounds, and its rows by the fastest way that gives the same bytes.
 
-use crate::engine::{bad_both, depth_of, Registers, Table};
+use crate::engine::{depth_of, place_from, place_to, Registers, Table};
 use crate::engine::{BLT_MODE, CH3_MODE_STR, CH3_OFFSET, DST_OFFSET, PAT_COLOR_0, PAT_COLOR_1, PAT_DATA_0, PAT_DATA_1};
 use crate::engine::{RASTER_MODE, SRC_COLOR_BG, SRC_COLOR_FG, SRC_OFFSET, STRIDE, WID_HEIGHT};
 use crate::host::{self, Layout};
@@ -65,7 +65,7 @@ impl Blt<'static> {
         let mode = r[BLT_MODE];
         let (left, up) = (mode & 0x200 != 0, mode & 0x100 != 0);
         let (pattern, place) = pattern_of(r).ok_or(24u32)?;
-        if bad_source(r[RASTER_MODE], mode) || bad_both(r) || mode & 0xC3 == 2 && host::straddles(r, depth) {
+        if bad_source(r[RASTER_MODE], mode) || mode & 0xC3 == 2 && host::straddles(r, depth) {
             return Err(24);
         }
         let (width, height) = ((r[WID_HEIGHT] >> 16 & 0xFFF) as usize, (r[WID_HEIGHT] & 0xFFF) as usize);
@@ -73,18 +73,18 @@ impl Blt<'static> {
             return Err(25);
         }
         let bounds = Bounds { bytes: width * depth, height, left, up, frame };
-        let to = bounds.rows(r[DST_OFFSET], r[STRIDE] & 0xFFFF).ok_or(27u32)?;
+        let to = bounds.rows(place_to(r), r[STRIDE] & 0xFFFF).ok_or(27u32)?;
         let source = if mode & 3 == 0 {
             Source::Color
         } else if mode & 3 == 2 {
             Source::Host(Layout::of(r, width, depth))
         } else if mode & 0xC0 == 0 {
-            Source::Frame(bounds.rows(r[SRC_OFFSET], r[STRIDE] >> 16).ok_or(28u32)?)
+            Source::Frame(bounds.rows(place_from(r), r[STRIDE] >> 16).ok_or(28u32)?)
         } else {
             let skip = r[SRC_OFFSET] >> 26 & 7;
             let bytes = (skip as usize + width + 7) / 8;
             let stride = if mode & 0x80 != 0 { bytes as u32 } else { r[STRIDE] >> 16 };
-            let rows = Bounds { bytes, ..bounds }.rows(r[SRC_OFFSET], stride).ok_or(28u32)?;
+            let rows = Bounds { bytes, ..bounds }.rows(place_from(r), stride).ok_or(28u32)?;
             Source::Bits(Font { rows, skip, bytes })
         };
         Ok(Blt { width, height, depth, left, up, to, source, data: None, pattern, place })
@@ -122,11 +122,13 @@ fn pattern_of(r: &Registers) -> Option<(Pattern, u32)> {
     good.then_some((Pattern::Color, r[CH3_OFFSET]))
 }
 
-/// 24 by a source: its mode, its select, a mono source that goes back, and the source bits with a colour mode.
+/// 24 by pattern inversion or a source: its mode, its select, a mono source that goes back, and the source bits with a colour
+/// mode.
 #[inline]
 fn bad_source(raster: u32, mode: u32) -> bool {
     let (select, kind) = (mode & 3, mode >> 6 & 3);
-    kind == 3
+    raster & 0x1000 != 0
+        || kind == 3
         || select == 3
         || select == 1 && (kind != 0 && mode & 0x200 != 0 || kind == 2 && mode & 0x100 != 0)
         || kind == 0 && raster & 0x2800 != 0
@@ -143,18 +145,17 @@ struct Bounds {
 }
 
 impl Bounds {
-    /// The rows with this offset and stride, if all lie in frame memory. With X negative the offset is a row's last byte.
+    /// The rows with this place and stride, if all lie in frame memory. With X negative the place is a row's last byte.
     #[inline]
-    fn rows(self, offset: u32, stride: u32) -> Option<Rows> {
-        let (bytes, stride) = (self.bytes as isize, stride as isize);
-        let offset = (offset & 0xFF_FFFF) as isize;
-        let first = if self.left { offset + 1 - bytes } else { offset };
+    fn rows(self, place: i64, stride: u32) -> Option<Rows> {
+        let (bytes, stride) = (self.bytes as i64, stride as i64);
+        let first = if self.left { place + 1 - bytes } else { place };
         let step = if self.up { -stride } else { stride };
-        let last = first + step * (self.height as isize - 1);
-        if first.min(last) < 0 || first.max(last) + bytes > self.frame as isize {
+        let last = first + step * (self.height as i64 - 1);
+        if first.min(last) < 0 || first.max(last) + bytes > self.frame as i64 {
             return None;
         }
-        Some(Rows { first: first as usize, step })
+        Some(Rows { first: first as usize, step: step as isize })
     }
 }
 

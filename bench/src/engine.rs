@@ -100,10 +100,10 @@ pub fn drive(ring: &[u32], frame: &mut [u8], list: &List) -> Told {
 
 /// 1, 2 or 5, or 0.
 fn bad_lengths(ring: usize, frame: usize, write: usize) -> u32 {
-    if !(1024..=16384).contains(&ring) {
+    if !(1024..=262_144).contains(&ring) {
         return 1;
     }
-    if !(1..=16_777_216).contains(&frame) {
+    if !(1..=67_108_864).contains(&frame) {
         return 2;
     }
     if write >= ring {
@@ -387,8 +387,20 @@ pub fn depth_of(mode: u32) -> Result<usize, u32> {
     }
 }
 
-/// Whether 24 applies by what both kinds of command have: pattern inversion, a base.
+/// Where the destination's offset lies in frame memory, its base added.
 #[inline]
-pub fn bad_both(r: &Registers) -> bool {
-    r[RASTER_MODE] & 0x1000 != 0 || r[BASE_OFFSET] != 0
+pub fn place_to(r: &Registers) -> i64 {
+    based(r[BASE_OFFSET], r[DST_OFFSET])
+}
+
+/// The same of the source's.
+#[inline]
+pub fn place_from(r: &Registers) -> i64 {
+    based(r[BASE_OFFSET] << 10, r[SRC_OFFSET])
+}
+
+/// A base in the high ten bits, which count 4 MiB each, and an offset of 24 bits: the sum may need 33.
+#[inline]
+fn based(base: u32, offset: u32) -> i64 {
+    (base & 0xFFC0_0000) as i64 + (offset & 0xFF_FFFF) as i64
 }

@@ -1,13 +1,14 @@
 //! A vector: its bounds, and its pixels one after the other.
 
-use crate::engine::{bad_both, depth_of, Registers};
-use crate::engine::{CH3_MODE_STR, DST_OFFSET, PAT_COLOR_0, RASTER_MODE, SRC_COLOR_FG, SRC_OFFSET, STRIDE, VECTOR_MODE, WID_HEIGHT};
+use crate::engine::{depth_of, place_to, Registers};
+use crate::engine::{CH3_MODE_STR, PAT_COLOR_0, RASTER_MODE, SRC_COLOR_FG, SRC_OFFSET, STRIDE, VECTOR_MODE, WID_HEIGHT};
 use crate::raster::Flat;
 
 pub struct Vector {
     depth: usize,
     pub length: u32,
-    offset: i64,
+    /// Where its first pixel begins.
+    place: i64,
     /// Bytes of a step along the major and the minor axis.
     major: i64,
     minor: i64,
@@ -21,7 +22,7 @@ impl Vector {
     /// The vector that the registers describe, or the number that refuses it.
     pub fn judged(r: &Registers, frame: usize) -> Result<Vector, u32> {
         let depth = depth_of(r[RASTER_MODE])?;
-        if r[RASTER_MODE] & 0x2B00 != 0 || r[CH3_MODE_STR] >> 31 != 0 || bad_both(r) {
+        if r[RASTER_MODE] & 0x3B00 != 0 || r[CH3_MODE_STR] >> 31 != 0 {
             return Err(24);
         }
         let length = r[WID_HEIGHT] >> 16 & 0xFFF;
@@ -39,7 +40,7 @@ impl Vector {
         let v = Vector {
             depth,
             length,
-            offset: (r[DST_OFFSET] & 0xFF_FFFF) as i64,
+            place: place_to(r),
             major: if mode & 2 != 0 { major } else { -major },
             minor: if mode & 4 != 0 { minor } else { -minor },
             axial,
@@ -60,8 +61,8 @@ impl Vector {
         let most = frame as i64 - self.depth as i64;
         let along = steps * self.major;
         let boxed = |across: i64| {
-            let low = self.offset + along.min(0) + across.min(0);
-            let high = self.offset + along.max(0) + across.max(0);
+            let low = self.place + along.min(0) + across.min(0);
+            let high = self.place + along.max(0) + across.max(0);
             low >= 0 && high <= most
         };
         boxed(steps * self.minor) || boxed(self.diagonals() * self.minor) || self.walks_in(most)
@@ -87,7 +88,7 @@ impl Vector {
     }
 
     fn walks_in(&self, most: i64) -> bool {
-        let (mut at, mut error) = (self.offset, self.error);
+        let (mut at, mut error) = (self.place, self.error);
         for _ in 0..self.length {
             if at < 0 || at > most {
                 return false;
@@ -119,7 +120,7 @@ fn pixels<const DEPTH: usize>(frame: &mut [u8], v: &Vector) {
 #[inline]
 fn walk<const DEPTH: usize>(frame: &mut [u8], v: &Vector, mut paint: impl FnMut(&mut [u8; DEPTH])) {
     let (axial, diagonal) = (v.major as isize, (v.major + v.minor) as isize);
-    let (mut at, mut error) = (v.offset as usize, v.error);
+    let (mut at, mut error) = (v.place as usize, v.error);
     for _ in 0..v.length {
         if let Some(p) = frame.get_mut(at..).and_then(|rest| rest.first_chunk_mut()) {
             paint(p);
