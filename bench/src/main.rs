@@ -7,6 +7,7 @@ mod blt;
 mod calls;
 mod engine;
 mod host;
+mod large;
 mod mixed;
 mod order;
 mod plain;
@@ -116,10 +117,11 @@ fn main() -> ExitCode {
 fn run(option: &str, word: &str) -> ExitCode {
     let mut cases = workloads::all(word);
     cases.extend(workloads::recordings(Path::new("recordings"), word));
-    let longest = cases.iter().map(|c| c.frame).max().unwrap_or(0).max(1 << 16);
+    let mut mixed = mixed::all(word);
+    mixed.extend(large::all(word));
+    let longest = cases.iter().chain(&mixed).map(|c| c.frame).max().unwrap_or(0);
     let start = workloads::start(longest);
     let mut memories = [Memory::new(longest), Memory::new(longest)];
-    let mut mixed = mixed::all(word);
     for case in cases.iter_mut().chain(&mut mixed) {
         if let Err(line) = agree(case, &start, &mut memories) {
             println!("bench: {} {} bits {}: {line}", case.kind, case.bits, case.size);
@@ -161,7 +163,9 @@ fn agree(case: &mut Case, start: &[u8], memories: &mut [Memory; 2]) -> Result<()
         return Err(format!("ours tells {:?}, the other {:?}", told[0], told[1]));
     }
     let [first, second] = memories;
-    if let Some(at) = first.frame(case.frame).iter().zip(second.frame(case.frame).iter()).position(|(x, y)| x != y) {
+    let (first, second) = (first.frame(case.frame), second.frame(case.frame));
+    if first != second {
+        let at = first.iter().zip(second.iter()).position(|(x, y)| x != y).unwrap();
         return Err(format!("byte {at} of frame memory differs"));
     }
     if case.mixed {

@@ -9,6 +9,9 @@ const HIGH: usize = 1024;
 
 pub const RING: usize = 16384;
 
+/// The frame memory of commands that have bases: 48 MiB.
+pub const LARGE: usize = 50_331_648;
+
 /// A ring to draw, and how much there is in it.
 pub struct Case {
     pub kind: String,
@@ -74,6 +77,8 @@ enum Source {
     Left,
     /// Below the screen.
     Apart,
+    /// On another screen, which has a base of its own.
+    Other,
     /// To the left, overlapping, but columns go right: each pixel reads what was written.
     Smear,
     /// Bits below the screen, byte-packed or in rows of a sheet.
@@ -101,12 +106,13 @@ enum Shape {
     Line,
 }
 
-/// A kind of command: its name, its RASTER_MODE without the format, and whether channel 3 brings the pattern.
+/// A kind of command: its name, its RASTER_MODE without the format, whether channel 3 brings the pattern, and its BASE_OFFSET.
 struct Kind {
     name: &'static str,
     shape: Shape,
     raster: u32,
     channel: bool,
+    base: u32,
 }
 
 const MONO: u32 = 0x100;
@@ -115,22 +121,29 @@ const PATTERN_HOLES: u32 = 0x400;
 const SOURCE_HOLES: u32 = 0x800;
 
 const fn kind(name: &'static str, source: Source, raster: u32) -> Kind {
-    Kind { name, shape: Shape::Rectangle(source), raster, channel: false }
+    Kind { name, shape: Shape::Rectangle(source), raster, channel: false, base: 0 }
 }
 
 const fn by_channel(name: &'static str, source: Source, raster: u32) -> Kind {
-    Kind { name, shape: Shape::Rectangle(source), raster, channel: true }
+    Kind { channel: true, ..kind(name, source, raster) }
+}
+
+/// With the bases of destination and source, in steps of 4 MiB.
+const fn based(name: &'static str, source: Source, raster: u32, to: u32, from: u32) -> Kind {
+    Kind { base: to << 22 | from << 12, ..kind(name, source, raster) }
 }
 
 const fn line(name: &'static str, raster: u32) -> Kind {
-    Kind { name, shape: Shape::Line, raster, channel: false }
+    Kind { shape: Shape::Line, ..kind(name, Source::None, raster) }
 }
 
-const KINDS: [Kind; 32] = [
+const KINDS: [Kind; 34] = [
     kind("fill F0", Source::None, 0xF0),
+    based("fill F0 at 44 MiB", Source::None, 0xF0, 11, 0),
     kind("copy left CC", Source::Right, 0xCC),
     kind("copy right CC", Source::Left, 0xCC),
     kind("copy apart CC", Source::Apart, 0xCC),
+    based("copy CC 4 to 44 MiB", Source::Other, 0xCC, 11, 1),
     kind("copy smear CC", Source::Smear, 0xCC),
     kind("xor 5A", Source::None, 0x5A),
     kind("xor 5A source", Source::Apart, 0x5A),
@@ -181,8 +194,10 @@ pub fn all(word: &str) -> Vec<Case> {
         cases.push(calls());
     }
     for kind in KINDS.iter().filter(|k| k.name.contains(word)) {
-        for depth in [1, 2, 4] {
-            for (width, height, count) in SIZES {
+        // with a base fewer depths and sizes
+        let (depths, sizes) = if kind.base == 0 { (&[1, 2, 4][..], &SIZES[..]) } else { (&[2, 4][..], &SIZES[2..]) };
+        for &depth in depths {
+            for &(width, height, count) in sizes {
                 cases.push(match kind.shape {
                     Shape::Rectangle(source) if source.words(depth, width, height) > RING / 2 => {
                         laps(kind, source, depth, width, height)
@@ -238,7 +253,7 @@ fn rectangles(kind: &Kind, source: Source, depth: usize, (width, height, count):
         size: format!("{width} x {height}"),
         write: ring.len(),
         ring: filled(ring),
-        frame: 2 * HIGH * WIDE * depth,
+        frame: if kind.base == 0 { 2 * HIGH * WIDE * depth } else { LARGE },
         commands: count,
         pixels: count * width * height,
         loads,
@@ -310,6 +325,7 @@ fn rectangle(kind: &Kind, source: Source, depth: usize, width: usize, height: us
         words[12] = random.next() & 0xFC00_0000;
         words[13] = 0x8020_0000 | format(depth) >> 4;
     }
+    words[15] = kind.base;
     words[16] = mode;
     words
 }
@@ -322,7 +338,8 @@ fn places(source: Source, depth: usize, width: usize, height: usize, random: &mu
     let away = (width / 4).max(1) * depth;
     let last = width * depth - 1;
     let below = HIGH * stride;
-    let row = below + random.below(HIGH - height) * stride;
+    let other = random.below(HIGH - height) * stride;
+    let row = below + other;
     let skip = if random.below(4) == 0 { random.below(8) } else { 0 };
     let packed = (skip + width + 7) / 8 * height;
     let (to, from, mode) = match source {
@@ -330,6 +347,7 @@ fn places(source: Source, depth: usize, width: usize, height: usize, random: &mu
         Source::Right => (to, to + away, 0x001),
         Source::Left => (to + last, to + last - away, 0x201),
         Source::Apart => (to, row + random.below(WIDE - width + 1) * depth, 0x001),
+        Source::Other => (to, other + random.below(WIDE - width + 1) * depth, 0x001),
         Source::Smear => (to, to - away, 0x001),
         Source::Packed => (to, skip << 26 | below + random.below(below - packed), 0x081),
         Source::Sheet => (to, skip << 26 | row + random.below(stride - width / 8), 0x041),
