@@ -6,7 +6,7 @@ ghost use Rattle.model.specs.Limits.{frameMost};
 ghost use Rattle.model.specs.Bits.{field};
 ghost use mathlib.Core.Bool.{_&&_};
 ghost use Rattle.model.specs.Choice.{_=?_};
-ghost use Rattle.model.specs.Registers.{registerCount, word, patternMode, channel3Enable, channel3PatternMode};
+ghost use Rattle.model.specs.Registers.{registerCount, word, sourceAddress, patternMode, channel3Enable, channel3PatternMode};
 ghost use Rattle.model.specs.Rectangle.{pixelsOf};
 ghost use Rattle.model.specs.BltPixel.{rectangleOf, monoMode, rowStride, bytesOf, monoSourceOf, patternOf, bltOf, withColor, drawTiled};
 ghost use Rattle.model.specs.declared.ColorPattern.the-variants.{Tile};
@@ -113,13 +113,14 @@ fn less_one(n: usize) -> usize
     n - 1
 }
 
-// The bytes that hold a mono source's bits.
-fn bytes_of(registers: [u32; REGISTERS]) -> Rectangle
+// The bytes that hold a mono source's bits, from the source's address on.
+fn bytes_of(registers: [u32; REGISTERS], offset: usize) -> Rectangle
+    requires { ⌜ offset ≡ sourceAddress registers ⌝ }
     ensures { λ r. ⌜ r ≡ bytesOf registers ⌝ }
 {
     let last = less_one(number(registers, WID_HEIGHT, 27, 16));
     Rectangle {
-        offset: fields::source_address(registers),
+        offset,
         depth: 1,
         columns: Axis {
             count: (number(registers, SRC_OFFSET, 28, 26) + last) / 8 + 1,
@@ -134,18 +135,26 @@ fn bytes_of(registers: [u32; REGISTERS]) -> Rectangle
     }
 }
 
-// The mono source.
-pub fn mono_source_of(registers: [u32; REGISTERS]) -> MonoSource
+// The mono source at the source's address. Found once for both modes, the address leaves `source_of` small enough to be inlined.
+fn mono_source_at(registers: [u32; REGISTERS], offset: usize) -> MonoSource
+    requires { ⌜ offset ≡ sourceAddress registers ⌝ }
     ensures { λ r. ⌜ r ≡ monoSourceOf registers ⌝ }
 {
     MonoSource {
-        bytes: bytes_of(registers),
+        bytes: bytes_of(registers, offset),
         skip: number(registers, SRC_OFFSET, 28, 26),
         foreground: registers[SRC_COLOR_FG],
         background: registers[SRC_COLOR_BG],
         inversion: fields::is_set(registers[RASTER_MODE], 13),
         transparent: fields::is_set(registers[RASTER_MODE], 11),
     }
+}
+
+// The mono source.
+pub fn mono_source_of(registers: [u32; REGISTERS]) -> MonoSource
+    ensures { λ r. ⌜ r ≡ monoSourceOf registers ⌝ }
+{
+    mono_source_at(registers, fields::source_address(registers))
 }
 
 // Where the pixels are drawn.
@@ -164,11 +173,11 @@ pub fn source_of(registers: [u32; REGISTERS]) -> Source
     if bits(registers, BLT_MODE, 1, 0) != 0b01 {
         return Source::Unselected(registers[SRC_COLOR_FG]);
     }
+    let offset = fields::source_address(registers);
     let mono = is_mono(registers);
     if mono {
-        return Source::Bits(mono_source_of(registers));
+        return Source::Bits(mono_source_at(registers, offset));
     }
-    let offset = fields::source_address(registers);
     let stride = number(registers, STRIDE, 31, 16);
     Source::Frame(rectangle_of(registers, offset, stride))
 }

@@ -16,18 +16,18 @@ returns : tie.Need-returns
 unfolding bltOf sourceOf
 returns c = rw (ne-eqb _ _ (λ e. c .if1 .taken (c .before .bits .ensures ∙ e)))
 
+source-address-requires : tie.Need-source-address-requires
+source-address-requires c κs = search needs
+
 is-mono-requires : tie.Need-is-mono-requires
 is-mono-requires c κs = search needs
 
-mono-source-of-requires : tie.Need-mono-source-of-requires
-mono-source-of-requires c κs = search needs
+mono-source-at-requires : tie.Need-mono-source-at-requires
+mono-source-at-requires c κs = search needs
 
 returns-2 : tie.Need-returns-2
 unfolding bltOf sourceOf
-returns-2 c = rw (eq-eqb _ _ (sym (c .before .before .before .before .bits .ensures) ∙ c .before .before .before .if1 .left), sym (c .before .before .is-mono .ensures) ∙ c .before .if2 .taken, c .mono-source-of .ensures)
-
-source-address-requires : tie.Need-source-address-requires
-source-address-requires c κs = search needs
+returns-2 c = rw (eq-eqb _ _ (sym (c .before .before .before .before .before .bits .ensures) ∙ c .before .before .before .before .if1 .left), sym (c .before .before .is-mono .ensures) ∙ c .before .if2 .taken, c .mono-source-at .ensures)
 
 number-requires : tie.Need-number-requires
 number-requires c κs = search needs
@@ -39,7 +39,7 @@ returns-3 : tie.Need-returns-3
 unfolding bltOf sourceOf
 returns-3 c =
     let stride : c .before .number .result ≡ sourceStride (c .before .before .before .before .before .before .before .args .t1) = c .before .number .ensures in
-    rw (eq-eqb _ _ (sym (c .before .before .before .before .before .before .bits .ensures) ∙ c .before .before .before .before .before .if1 .left), sym (c .before .before .before .before .is-mono .ensures) ∙ c .before .before .before .if2 .left, c .rectangle-of .ensures, c .before .before .source-address .ensures, stride)
+    rw (eq-eqb _ _ (sym (c .before .before .before .before .before .before .bits .ensures) ∙ c .before .before .before .before .before .if1 .left), sym (c .before .before .before .is-mono .ensures) ∙ c .before .before .if2 .left, c .rectangle-of .ensures, c .before .before .before .before .source-address .ensures, stride)
 
 pub source-of-spec : {M : Type 1} → statement M
 source-of-spec =
@@ -48,10 +48,10 @@ source-of-spec =
     bits-requires
     array-read-t11
     returns
-    is-mono-requires
-    mono-source-of-requires
-    returns-2
     source-address-requires
+    is-mono-requires
+    mono-source-at-requires
+    returns-2
     number-requires
     rectangle-of-requires
     returns-3)
