@@ -2,13 +2,13 @@
 -- row 3. Memories of many MiB stand here by their length alone: 27, 28 and row 3 look at no byte. The one table of Cases shows them.
 use Prim.Native.Nat.{ℕ, _+_, _-_, _*_}
 use mathlib.Core.Path.{_≡_}
-use mathlib.Core.Bool.{Bool, true, false}
+use mathlib.Core.Bool.{true, false}
 use mathlib.Core.List.{List, [], _∷_, _++_, map}
 use lib.ListN.{replicate}
-use Rattle.model.specs.Registers.{RASTER-MODE, DST-OFFSET, SRC-OFFSET, STRIDE, WID-HEIGHT, SRC-COLOR-FG, PAT-COLOR-0, BASE-OFFSET, BLT-MODE, VEC-LEN, VEC-ERR, VECTOR-MODE}
+use Rattle.model.specs.Registers.{RASTER-MODE, DST-OFFSET, STRIDE, WID-HEIGHT, PAT-COLOR-0, BASE-OFFSET, VEC-LEN, VEC-ERR, VECTOR-MODE}
 use Rattle.model.specs.Rectangle.{pixelByte, columnOf, rowOf, pixelsOf, rectangleExtent}
 use Rattle.model.specs.BltPixel.{bltOf}
-use Rattle.model.specs.VectorPixel.{vectorOf, vectorByte, vectorExtent}
+use Rattle.model.specs.VectorPixel.{vectorOf, vectorExtent}
 use Rattle.model.specs.Command.{badDataWord}
 use Rattle.model.specs.Judging.{judge}
 use Rattle.model.specs.Unit.{Done, units}
@@ -140,7 +140,9 @@ pub record Bases : Type 0 where
       drawnAt (copy 0 1 0x300 but RASTER-MODE is 0x600000F0 but STRIDE is 16 but WID-HEIGHT is 0x00020002 but BASE-OFFSET is bases 1 0)
       ≡ MiB 4 ∷ (MiB 4 - 2) ∷ (MiB 4 - 16) ∷ (MiB 4 - 18) ∷ []
   -- 28 by the whole place: just inside and just outside, and a base of which every offset is outside; colour and bits
-  pub source-in : map (copyFrom 1) (0 ∷ 12 ∷ 13 ∷ []) ++ map (copyFrom 2) (0 ∷ []) ++ map (copyFrom 0) (0x40000C ∷ 0x40000D ∷ []) ≡ 0 ∷ 0 ∷ 28 ∷ 28 ∷ 0 ∷ 28 ∷ []
+  pub source-in :
+      map (copyFrom 1) (0 ∷ 12 ∷ 13 ∷ []) ++ map (copyFrom 2) (0 ∷ []) ++ map (copyFrom 0) (0x40000C ∷ 0x40000D ∷ [])
+      ≡ 0 ∷ 0 ∷ 28 ∷ 28 ∷ 0 ∷ 28 ∷ []
   pub bits-in :
       map (bitsFrom 0x41 1) (10 ∷ 11 ∷ []) ++ map (bitsFrom 0x81 1) (12 ∷ 13 ∷ []) ++ (bitsFrom 0x41 1_023 0 ∷ []) ≡ 0 ∷ 28 ∷ 0 ∷ 28 ∷ 28 ∷ []
   -- a vector has the destination's base, and the source's has no effect on it
@@ -158,7 +160,7 @@ pub record Bases : Type 0 where
   -- row 3 judges a command in progress by the whole place
   pub base-in-progress :
       map (λ base. unfit (engine (row but BASE-OFFSET is bases base 0) (MiB 8) 0 0 (Drawing Blt 3))) (0 ∷ 1 ∷ 2 ∷ []) ≡ false ∷ false ∷ true ∷ []
-  -- "a count is at most 65,535, whatever the ring": 32 by the ring's size, and row 3
+  -- the largest count that a count word holds, by 32; and counts of a command in progress, by row 3, whatever the ring
   pub counts-of-rings : map (λ size. badDataWord size 0xFFFF) (65_537 ∷ 65_538 ∷ 262_144 ∷ []) ≡ true ∷ false ∷ false ∷ []
   pub saved-counts :
       map (λ (s : ℕ × ℕ). unfit (savedCount (s .0) (s .1)))
