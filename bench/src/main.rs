@@ -33,8 +33,6 @@ extern "C" {
         budget: u32,
         retired: *mut u32,
         number: *mut u32,
-        low: *mut usize,
-        high: *mut usize,
     ) -> u32;
 }
 
@@ -45,9 +43,7 @@ fn ours(case: &Case, frame: &mut [u8]) -> Told {
         let (units, retired) = calls::drive(ring, frame, list);
         return Told { units: units as u32, retired, number: 0 };
     }
-    // W7's lowest and highest byte are not compared
-    let (mut low, mut high) = (0, 0);
-    // The archive's function takes two runs, each as a pointer and a length, and touches nothing else but the four numbers.
+    // The archive's function takes two runs, each as a pointer and a length, and touches nothing else but the two numbers.
     told.units = unsafe {
         bench_draw(
             ring.as_ptr(),
@@ -58,8 +54,6 @@ fn ours(case: &Case, frame: &mut [u8]) -> Told {
             u32::MAX,
             &mut told.retired,
             &mut told.number,
-            &mut low,
-            &mut high,
         )
     };
     told

@@ -2,7 +2,6 @@
 
 use crate::bases;
 use crate::cases::span;
-use crate::extents;
 use crate::host::{self, mode_name};
 use crate::model::{self, field, Answer, Data, Kind, Pattern, Registers, SourceMode, State, Table, Word};
 use crate::model::{
@@ -15,8 +14,7 @@ use crate::tables::{self, Follow};
 use std::collections::BTreeMap;
 
 /// Refusals 3 and 4 are not here: the programs hand on the state that they were given and lend what they set up. What W3 needs at each
-/// depth is in `short_ways`, what W4 needs in `tables`, what W5 needs in `host`, what W6 needs in `bases` and `wide`,
-/// what W7 needs in `extents`.
+/// depth is in `short_ways`, what W4 needs in `tables`, what W5 needs in `host`, what W6 needs in `bases` and `wide`.
 const NEEDED: &[(&str, &[&str])] = &[
     ("refusals", &["1", "2", "5", "6", "7", "21", "22", "23", "24", "25", "26", "27", "28", "29", "30", "31", "32"]),
     (
@@ -162,7 +160,6 @@ pub struct Counts {
     pictures: host::Follow,
     host: host::Sets,
     bases: bases::Sets,
-    ends: extents::Follow,
     pub units: u64,
     /// which kind of command wrote registers 2 and 4 last, in this case
     wrote: [Option<Kind>; 2],
@@ -179,7 +176,7 @@ pub struct Counts {
 impl Counts {
     pub fn new() -> Counts {
         let mut count = BTreeMap::new();
-        for (_, names) in NEEDED.iter().chain(tables::NEEDED).chain(host::NEEDED).chain(bases::NEEDED).chain(extents::NEEDED) {
+        for (_, names) in NEEDED.iter().chain(tables::NEEDED).chain(host::NEEDED).chain(bases::NEEDED) {
             for name in *names {
                 count.insert(name.to_string(), 0);
             }
@@ -212,7 +209,6 @@ impl Counts {
             pictures: host::Follow::new(),
             host: host::Sets::new(),
             bases: bases::Sets::new(),
-            ends: extents::Follow::new(),
             units: 0,
             wrote: [None, None],
             loaded: (0, 0),
@@ -230,7 +226,6 @@ impl Counts {
         self.recording = recording;
         self.follow = Follow::new();
         self.pictures = host::Follow::new();
-        self.ends = extents::Follow::new();
     }
 
     pub fn hit(&mut self, name: &str) {
@@ -255,7 +250,7 @@ impl Counts {
     /// Prints all counts; true if none is zero.
     pub fn report(&self) -> bool {
         let mut missing = Vec::new();
-        for (group, names) in NEEDED.iter().chain(tables::NEEDED).chain(host::NEEDED).chain(bases::NEEDED).chain(extents::NEEDED) {
+        for (group, names) in NEEDED.iter().chain(tables::NEEDED).chain(host::NEEDED).chain(bases::NEEDED) {
             println!("{group}:");
             for name in *names {
                 let count = self.count[*name];
@@ -845,10 +840,10 @@ fn count_bits(bits: &mut [[u64; 2_048]; 3], code: usize, depth: i64, asked: u32)
     }
 }
 
-/// The lines of W3's, W4's, W5's and W7's kinds: group, kind, and its names with depth and direction.
+/// The lines of W3's, W4's and W5's kinds: group, kind, and its names with depth and direction.
 fn lines() -> Vec<(&'static str, String, Vec<(String, String)>)> {
     let mut lines = Vec::new();
-    for each in short_ways::NEEDED.iter().chain(tables::EACH).chain(host::EACH).chain(extents::EACH) {
+    for each in short_ways::NEEDED.iter().chain(tables::EACH).chain(host::EACH) {
         for of in each.of {
             for name in each.names {
                 lines.push((each.group, format!("{of} {name}"), each.line(of, name)));
@@ -949,9 +944,6 @@ fn ends_inside(state: &State, ring: &[u32]) -> Option<u32> {
 impl Watch for Counts {
     fn unit(&mut self, before: &State, ring: &[u32], frame: &[u8], after: &State) {
         self.units += 1;
-        if self.recording {
-            self.ends.unit(before, ring, frame, after);
-        }
         let wanted = model::data_wanted(before);
         if self.fresh {
             self.fresh = false;
@@ -975,10 +967,6 @@ impl Watch for Counts {
 
     fn call(&mut self, call: Call, before: &State, ring: &[u32], answer: &Answer, after: &State) {
         self.fresh = true;
-        if self.recording {
-            let kinds = self.ends.call(call, ring, answer, after);
-            self.hit_all(kinds);
-        }
         if let Word::Refused(number) = answer.word {
             self.hit(&number.to_string());
             self.hit_if(number == 1 && ring.len() == 64, "1 at 64 words");

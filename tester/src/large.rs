@@ -18,8 +18,6 @@ extern "C" {
         budget: u32,
         retired: *mut u32,
         number: *mut u32,
-        low: *mut usize,
-        high: *mut usize,
     ) -> u32;
 
     fn bench_drive(
@@ -38,8 +36,8 @@ extern "C" {
 }
 
 fn draw(case: &Case, frame: &mut [u8], position: u32, budget: u32) -> String {
-    let (mut retired, mut number, mut low, mut high) = (0, 0, 0, 0);
-    // The archive's function takes two runs, each as a pointer and a length, and touches nothing else but the four numbers.
+    let (mut retired, mut number) = (0, 0);
+    // The archive's function takes two runs, each as a pointer and a length, and touches nothing else but the two numbers.
     let units = unsafe {
         bench_draw(
             case.ring.as_ptr(),
@@ -50,13 +48,9 @@ fn draw(case: &Case, frame: &mut [u8], position: u32, budget: u32) -> String {
             budget,
             &mut retired,
             &mut number,
-            &mut low,
-            &mut high,
         )
     };
-    // none is low = 1 and high = 0
-    let ends = if (low, high) == (1, 0) { None } else { Some((low as i64, high as i64)) };
-    stream::told(u64::from(units), retired, Some((number, ends)), frame)
+    stream::told(u64::from(units), retired, Some(number), frame)
 }
 
 fn drive(case: &Case, frame: &mut [u8]) -> String {

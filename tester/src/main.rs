@@ -7,7 +7,6 @@
 mod bases;
 mod cases;
 mod counts;
-mod extents;
 mod host;
 mod model;
 mod programs;
@@ -75,23 +74,11 @@ fn make_case(rng: &mut Rng, number: u64, counts: &mut Counts) -> Case {
     Case { input, expected }
 }
 
-/// W7: few commands, so that each may show in low and high.
-fn make_short(rng: &mut Rng, counts: &mut Counts) -> Case {
-    counts.begin_case(true);
-    let input = cases::short_recording(rng);
-    let (lines, frame) = programs::replay(&input, counts);
-    Case { input, expected: vec![("replay", lines.into_bytes()), ("frame", frame)] }
-}
-
 fn compare_all(folder: &Path, cases: u64, seed: u64, failed: &Path) -> Result<String, String> {
     println!("tester: seed {seed}, {cases} cases");
     let mut counts = Counts::new();
-    let short = (0..cases / 2).map(|number| ("short recording", number));
-    for (what, number) in (0..cases).map(|number| ("case", number)).chain(short) {
-        let case = match what {
-            "case" => make_case(&mut Rng::of_case(seed, number), number, &mut counts),
-            _ => make_short(&mut Rng::of_case(!seed, number), &mut counts),
-        };
+    for number in 0..cases {
+        let case = make_case(&mut Rng::of_case(seed, number), number, &mut counts);
         for (program, expected) in &case.expected {
             let path = folder.join(program);
             let (written, complaint) = start(&path, &case.input).map_err(|e| format!("tester: {}: {e}", path.display()))?;
@@ -99,9 +86,9 @@ fn compare_all(folder: &Path, cases: u64, seed: u64, failed: &Path) -> Result<St
                 continue;
             }
             let difference = first_difference(program, expected, &written, &complaint);
-            keep(failed, seed, &format!("{what} {number}"), program, &case.input, &difference)?;
+            keep(failed, seed, number, program, &case.input, &difference)?;
             return Err(format!(
-                "{difference}tester: {what} {number} of seed {seed} differs; its bytes are in {}",
+                "{difference}tester: case {number} of seed {seed} differs; its bytes are in {}",
                 failed.display()
             ));
         }
@@ -109,7 +96,6 @@ fn compare_all(folder: &Path, cases: u64, seed: u64, failed: &Path) -> Result<St
     if !counts.report() {
         return Err("tester: some kinds never came up".to_string());
     }
-    println!("tester: {} short recordings agree", cases / 2);
     Ok(format!("tester: {cases} cases agree"))
 }
 
@@ -117,12 +103,8 @@ fn compare_all(folder: &Path, cases: u64, seed: u64, failed: &Path) -> Result<St
 fn compare_large(program: &Path, cases: u64, seed: u64, failed: &Path) -> Result<String, String> {
     println!("tester: seed {seed}, {cases} large cases");
     let mut kinds = wide::Kinds::new();
-    let short = (0..cases / 3).map(|number| ("short large case", number));
-    for (what, number) in (0..cases).map(|number| ("large case", number)).chain(short) {
-        let text = match what {
-            "large case" => wide::case(&mut Rng::of_case(!seed, number), number),
-            _ => wide::short_case(&mut Rng::of_case(seed, number), number),
-        };
+    for number in 0..cases {
+        let text = wide::case(&mut Rng::of_case(!seed, number), number);
         let case = stream::parse(&text).ok_or("tester: a large case that cannot be read")?;
         kinds.begin_case(&case);
         let expected = programs::large(&case, &mut kinds);
@@ -131,14 +113,13 @@ fn compare_large(program: &Path, cases: u64, seed: u64, failed: &Path) -> Result
             continue;
         }
         let difference = first_difference("large", expected.as_bytes(), &written, &complaint);
-        let kept = format!("seed {seed}, {what} {number}\n{difference}input:\n{text}");
+        let kept = format!("seed {seed}, large case {number}\n{difference}input:\n{text}");
         std::fs::write(failed, kept).map_err(|e| format!("tester: {}: {e}", failed.display()))?;
-        return Err(format!("{difference}tester: {what} {number} of seed {seed} differs; it is in {}", failed.display()));
+        return Err(format!("{difference}tester: large case {number} of seed {seed} differs; it is in {}", failed.display()));
     }
     if !kinds.report() {
         return Err("tester: some kinds never came up".to_string());
     }
-    println!("tester: {} short large cases agree", cases / 3);
     Ok(format!("tester: {cases} large cases agree"))
 }
 
@@ -190,8 +171,8 @@ fn first_difference(program: &str, expected: &[u8], written: &[u8], complaint: &
     text
 }
 
-fn keep(failed: &Path, seed: u64, case: &str, program: &str, input: &[u8], difference: &str) -> Result<(), String> {
-    let mut text = format!("seed {seed}, {case}, program {program}\n{difference}input, {} bytes in hex:\n", input.len());
+fn keep(failed: &Path, seed: u64, number: u64, program: &str, input: &[u8], difference: &str) -> Result<(), String> {
+    let mut text = format!("seed {seed}, case {number}, program {program}\n{difference}input, {} bytes in hex:\n", input.len());
     for line in input.chunks(32) {
         for byte in line {
             text += &format!("{byte:02x}");

@@ -1,7 +1,7 @@
-//! A second drawing engine, written from document 01 and requests W1, W2 and W4 to W7 of document 02, to be read beside them.
+//! A second drawing engine, written from document 01 and requests W1, W2, W4, W5 and W6 of document 02, to be read beside them.
 //!
 //! It is slow on purpose: it works unit by unit, finds the bounds by going through every byte of every pixel, and does the raster
-//! operation bit by bit. The quotations are document 01's; W1's, W2's, W4's to W7's and the data book's (000) are named.
+//! operation bit by bit. The quotations are document 01's; W1's, W2's, W4's, W5's, W6's and the data book's (000) are named.
 
 // ---- Registers ------------------------------------------------------------------------------------------------------------------
 
@@ -139,24 +139,15 @@ pub struct Answer {
     pub word: Word,
     pub units: u32,
     pub room: u32,
-    /// W7: "without one, any command or call gives "none""
-    pub extent: Option<Extent>,
-}
-
-/// W7: "the lowest and the highest destination byte"
-#[derive(Clone, Copy, PartialEq, Eq, Debug)]
-pub struct Extent {
-    pub low: i64,
-    pub high: i64,
 }
 
 /// "A refused call answers its number, units 0 and room 0"
 fn refused(number: u32) -> Answer {
-    Answer { word: Word::Refused(number), units: 0, room: 0, extent: None }
+    Answer { word: Word::Refused(number), units: 0, room: 0 }
 }
 
 fn accepted(state: &State) -> Answer {
-    Answer { word: Word::Zero, units: 0, room: room_of(state), extent: None }
+    Answer { word: Word::Zero, units: 0, room: room_of(state) }
 }
 
 // ---- The ring -------------------------------------------------------------------------------------------------------------------
@@ -293,8 +284,6 @@ pub fn run(
     }
     let mut state = state;
     let mut units = 0;
-    // W7: "A run gives the lowest and highest over all drawing commands it accepted"
-    let mut extent = None;
     let word = loop {
         // "stopped, if a stop number stands; else waiting, if no further unit can be done; else spent"
         if state.stop != 0 {
@@ -308,12 +297,11 @@ pub fn run(
             break Word::Spent;
         }
         let before = state;
-        extent = both(extent, given(&state, ring, next));
         do_unit(&mut state, ring, frame, next);
         units += 1;
         seen(&before, ring, frame, &state);
     };
-    (state, Answer { word, units, room: room_of(&state), extent })
+    (state, Answer { word, units, room: room_of(&state) })
 }
 
 // ---- Units ----------------------------------------------------------------------------------------------------------------------
@@ -761,39 +749,6 @@ pub fn judge(kind: Kind, registers: &Registers, frame_len: u32) -> u32 {
         return 28;
     }
     0
-}
-
-/// W7: "judging shall also give, when it accepts a drawing command, the lowest and the highest destination byte of its pixels"; a command
-/// that only loads, a table load, a data command and a refusal give none.
-pub fn given(state: &State, ring: &[u32], unit: Unit) -> Option<Extent> {
-    match unit {
-        Unit::Load(kind) if draws(kind, ring_word(state, ring, 0)) => extent(kind, &registers_after(state, ring, kind)),
-        _ => None,
-    }
-}
-
-/// Of every byte of every pixel, "transparent ones counted".
-pub fn extent(kind: Kind, registers: &Registers) -> Option<Extent> {
-    let depth = bytes_per_pixel(registers)?;
-    let mut extent = None;
-    let mut take = |first: i64| {
-        for byte in first..first + depth {
-            extent = both(extent, Some(Extent { low: byte, high: byte }));
-        }
-    };
-    match kind {
-        Kind::Blt => (0..pixel_count(kind, registers)).for_each(|k| take(blt_pixel(registers, depth, k).destination)),
-        Kind::Vector => vector_pixels(registers, depth).for_each(|pixel| take(pixel.position)),
-    }
-    extent
-}
-
-/// The lowest and the highest of two.
-fn both(one: Option<Extent>, other: Option<Extent>) -> Option<Extent> {
-    match (one, other) {
-        (Some(one), Some(other)) => Some(Extent { low: one.low.min(other.low), high: one.high.max(other.high) }),
-        _ => one.or(other),
-    }
 }
 
 /// CH3_MODE_STR's EN (000, 6.4.2.22)

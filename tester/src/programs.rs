@@ -78,16 +78,10 @@ fn replay_lines(state: &State, answer: &Answer) -> String {
         Word::Spent => ("spent", 0),
         Word::Zero => ("0", 0),
     };
-    let lines = format!(
+    format!(
         "retired={}\nunits={}\nread={}\nwrite={}\nstate={}\nrefusal={}\n",
         state.completion, answer.units, state.read, state.write, word, refusal
-    );
-    lines + &stream::low_and_high(ends_of(answer))
-}
-
-/// W7: the lowest and the highest byte, or none.
-fn ends_of(answer: &Answer) -> Option<(i64, i64)> {
-    answer.extent.map(|extent| (extent.low, extent.high))
+    )
 }
 
 /// Ring length, frame length, then records `op a b`; one line for each call, setup first, and the frame's CRC-32 at the end.
@@ -165,7 +159,7 @@ pub fn large(case: &Case, watch: &mut dyn Watch) -> String {
     let (mut state, answer) = model::setup(case.ring.len() as u32, case.frame_len);
     watch.call(Call::Setup, &model::ZEROS, &case.ring, &answer, &state);
     let mut frame = vec![0; case.frame_len as usize];
-    let (mut units, mut number, mut ends) = (0, number_of(&answer, &state), ends_of(&answer));
+    let (mut units, mut number) = (0, number_of(&answer, &state));
     let draw = case.draw.map(|(position, budget)| [(stream::PUBLISH, position, 0), (stream::RUN, 0, budget)]);
     for (kind, position, budget) in draw.as_ref().map_or(&case.calls[..], |calls| calls) {
         if draw.is_some() && number != 0 {
@@ -185,9 +179,9 @@ pub fn large(case: &Case, watch: &mut dyn Watch) -> String {
         watch.call(call, &before, &case.ring, &answer, &after);
         state = after;
         units += u64::from(answer.units);
-        (number, ends) = (number_of(&answer, &state), ends_of(&answer));
+        number = number_of(&answer, &state);
     }
-    stream::told(units, state.completion, draw.map(|_| (number, ends)), &frame)
+    stream::told(units, state.completion, draw.map(|_| number), &frame)
 }
 
 /// That of the refusal or of the stop, or 0.

@@ -1,9 +1,8 @@
-//! Document 01's shop cases and its replay example, with rings of 1,024 words as W4 restates them, and cases of requests W1 to W7, asked of
+//! Document 01's shop cases and its replay example, with rings of 1,024 words as W4 restates them, and cases of requests W1 to W6, asked of
 //! the model. Run by `rustc --test`.
 
 use crate::model::*;
-use crate::programs::{crc32, large, replay, trace, Nobody};
-use crate::stream;
+use crate::programs::{crc32, replay, trace, Nobody};
 
 const W: u32 = 1 << 31;
 const DRAWING_BLT: u32 = 0xFFFF;
@@ -1557,258 +1556,14 @@ fn counts_in_a_large_ring() {
     }
 }
 
-// ---- W7: the lowest and the highest byte ----------------------------------------------------------------------------------------
-
-fn ends(answer: &Answer) -> Option<(i64, i64)> {
-    answer.extent.map(|extent| (extent.low, extent.high))
-}
-
-/// These commands on zeros, all of them published: the state, and what the run answers of low and high.
-fn ends_of(list: &[Vec<u32>], frame_len: u32) -> (State, Option<(i64, i64)>) {
-    let words = list.concat();
-    let mut frame = vec![0; frame_len as usize];
-    let (state, answer) = quiet_run(state_at(0, words.len() as u32, frame_len), &ring_with(0, &words), &mut frame, u32::MAX);
-    (state, ends(&answer))
-}
-
-/// A copy to this place whose source lies behind a frame of 64 bytes.
-fn copy_from_outside(to: u32) -> Vec<u32> {
-    let values = [(RASTER_MODE, 0xCC), (DST_OFFSET, to), (SRC_OFFSET, 62), (WID_HEIGHT, 4 << 16 | 1), (BLT_MODE, FRAME_MEMORY)];
-    blt(DRAWING_BLT, &values)
-}
-
-/// Two rows of three pixels, 13 bytes apart, from byte 30.
-#[test]
-fn ends_of_blts() {
-    let wanted = [
-        (0, [(30, 45), (28, 43), (17, 32), (15, 30)]),
-        (6 << 28, [(30, 48), (25, 43), (17, 35), (12, 30)]),
-        (8 << 28, [(30, 54), (19, 43), (17, 41), (6, 30)]),
-    ];
-    for (format, of_directions) in wanted {
-        for (direction, wanted) in [0, X_NEGATIVE, Y_NEGATIVE, X_NEGATIVE | Y_NEGATIVE].into_iter().zip(of_directions) {
-            assert_eq!(ends_of(&[two_rows(format, direction, 30, None)], 64).1, Some(wanted), "format {format:x}, direction {direction:x}");
-            // wherever its source lies
-            for from in [24, 30, 33] {
-                assert_eq!(ends_of(&[two_rows(format, direction, 30, Some(from))], 64).1, Some(wanted));
-            }
-        }
-    }
-    // stride 0, rows on one another; one row, whatever the stride; rows that share bytes; one pixel
-    let with = |raster: u32, stride: u32, width: u32, height: u32| {
-        let values = [(RASTER_MODE, raster), (DST_OFFSET, 20), (STRIDE, stride), (WID_HEIGHT, width << 16 | height)];
-        ends_of(&[blt(DRAWING_BLT, &values)], 64).1
-    };
-    assert_eq!(with(0xF0, 0, 4, 3), Some((20, 23)));
-    assert_eq!(with(8 << 28 | 0xF0, 0, 4, 1), Some((20, 35)));
-    assert_eq!(with(8 << 28 | 0xF0, 65_535, 4, 1), Some((20, 35)));
-    assert_eq!(with(6 << 28 | 0xF0, 3, 4, 3), Some((20, 33)));
-    assert_eq!(with(0xAA, 0, 1, 1), Some((20, 20)));
-    assert_eq!(with(8 << 28 | 0xAA, 0, 1, 1), Some((20, 23)));
-}
-
-/// Pixels that write nothing are counted: the outermost ones, and all of them.
-#[test]
-fn transparent_ends() {
-    for (pattern_data, wanted) in [(0x18, vec![8, 9]), (0, vec![])] {
-        let values = [(RASTER_MODE, 0x5F0), (DST_OFFSET, 5), (WID_HEIGHT, 8 << 16 | 1), (PAT_COLOR_1, 0x77), (PAT_DATA_0, pattern_data)];
-        let mut frame = [0; 16];
-        let (_, answer) = quiet_run(state_at(0, 17, 16), &ring_with(0, &blt(DRAWING_BLT, &values)), &mut frame, u32::MAX);
-        assert_eq!(ends(&answer), Some((5, 12)));
-        assert_eq!((0..16).filter(|at| frame[*at] != 0).collect::<Vec<_>>(), wanted);
-    }
-    // a font of which no bit is set
-    for mode in [UNPACKED, BYTE_PACKED] {
-        let values = [(RASTER_MODE, ST | 0xFF), (DST_OFFSET, 5), (WID_HEIGHT, 8 << 16 | 1), (BLT_MODE, mode | FRAME_MEMORY)];
-        assert_eq!(ends_of(&[blt(DRAWING_BLT, &values)], 16).1, Some((5, 12)));
-    }
-}
-
-/// Four pixels by an axial, a diagonal and an axial step: where the signs differ, neither end is the lowest or the highest.
-#[test]
-fn ends_of_vectors() {
-    for (format, mode, wanted) in [
-        (0, 2, (42, 51)), // X+ Y-: 50 51 42 43
-        (6 << 28, 2, (44, 53)),
-        (8 << 28, 2, (48, 57)),
-        (0, 4, (49, 58)), // X- Y+: 50 49 58 57
-        (6 << 28, 4, (48, 57)),
-        (8 << 28, 4, (46, 55)),
-        (0, 6, (50, 63)), // X+ Y+: 50 51 62 63
-        (0, 0, (37, 50)),
-        (8 << 28, 0, (28, 53)), // X- Y-: 50 46 32 28
-        (0, 7, (50, 81)), // Y major: 50 60 71 81
-        (0, 5, (21, 50)), // 50 40 31 21
-    ] {
-        let values = [
-            (RASTER_MODE, format | 0xF0),
-            (DST_OFFSET, 50),
-            (VEC_ERR, 1 << 16 | 0xFFFF),
-            (STRIDE, 10),
-            (VEC_LEN, 4 << 16 | 0xFFFF),
-            (VECTOR_MODE, mode),
-        ];
-        assert_eq!(ends_of(&[vector(&values)], 100).1, Some(wanted), "format {format:x}, mode {mode}");
-    }
-    // stride 0; only LENGTH pixels, not the step behind the last
-    for (stride, length, wanted) in [(0, 4, (50, 53)), (10, 2, (50, 51)), (10, 1, (50, 50))] {
-        let values = [(RASTER_MODE, 0xF0), (DST_OFFSET, 50), (VEC_ERR, 1 << 16 | 0xFFFF), (STRIDE, stride)];
-        let values = [&values[..], &[(VEC_LEN, length << 16 | 0xFFFF), (VECTOR_MODE, 2)]].concat();
-        assert_eq!(ends_of(&[vector(&values)], 100).1, Some(wanted));
-    }
-}
-
-/// "over all drawing commands it accepted", and no other
-#[test]
-fn ends_of_several() {
-    let at = |offset: u32| fill(DRAWING_BLT, offset);
-    assert_eq!(ends_of(&[at(4), at(20)], 64).1, Some((4, 23)));
-    assert_eq!(ends_of(&[at(20), at(4)], 64).1, Some((4, 23)));
-    assert_eq!(ends_of(&[at(12), at(40), at(4), at(16)], 64).1, Some((4, 43)));
-    // a second one that is refused, though its pixels lie inside, or just outside
-    let vector_above = |error: u32| vector(&[(DST_OFFSET, 40), (VEC_ERR, error), (VEC_LEN, 4 << 16), (VECTOR_MODE, 6)]);
-    let pattern_above = blt(DRAWING_BLT, &[(RASTER_MODE, 0x3F0), (DST_OFFSET, 40), (WID_HEIGHT, 4 << 16 | 1)]);
-    for (second, number) in [
-        (copy_from_outside(40), 28),
-        (copy_from_outside(0), 28),
-        (at(61), 27),
-        (vector_above(1), 26),
-        (pattern_above, 24),
-        (fill(DRAWING_BLT | 1 << 20, 40), 21),
-        (data(1, &[0]), 31),
-    ] {
-        let (state, wanted) = ends_of(&[at(20), second.clone(), at(8)], 64);
-        assert_eq!((state.stop, wanted), (number, Some((20, 23))));
-        assert_eq!(ends_of(&[second], 64).1, None);
-    }
-    // commands that only load, and table loads
-    for load in [fill(0x7FFF, 40), table_load(INDEX, 0x100, 3), vec![1 << 29; 14]] {
-        assert_eq!(ends_of(&[load.clone()], 64).1, None);
-        assert_eq!(ends_of(&[at(20), load.clone(), at(24), load], 64).1, Some((20, 27)));
-    }
-    assert_eq!(ends_of(&[], 64).1, None);
-}
-
-/// The load answers; what goes on answers none. Nothing of it is kept in the state.
-#[test]
-fn ends_by_run() {
-    let words = [fill(DRAWING_BLT, 20), fill(DRAWING_BLT, 4)].concat();
-    let ring = ring_with(0, &words);
-    let mut frame = [0; 64];
-    let mut state = state_at(0, 34, 64);
-    for (budget, units, wanted) in [
-        (0, 0, None),
-        (1, 1, Some((20, 23))),
-        (0, 0, None),
-        (1, 1, None),
-        (3, 3, None),
-        (2, 2, Some((4, 7))),
-        (u32::MAX, 3, None),
-        (u32::MAX, 0, None),
-    ] {
-        let before = frame;
-        let (after, answer) = quiet_run(state, &ring, &mut frame, budget);
-        assert_eq!((answer.units, ends(&answer)), (units, wanted));
-        assert!((budget, units) != (1, 1) || wanted.is_none() || frame == before);
-        for other in [publish(after, 34).1, room(after).1, restart(after).1, setup(1_024, 64).1] {
-            assert_eq!(ends(&other), None);
-        }
-        state = after;
-    }
-    // one that goes on and then loads: by the second alone
-    let (half, _) = quiet_run(state_at(0, 34, 64), &ring, &mut frame, 3);
-    assert_eq!(ends(&quiet_run(half, &ring, &mut frame, u32::MAX).1), Some((4, 7)));
-    // refused calls, and a run on a stopped engine
-    let good = state_at(0, 34, 64);
-    assert_eq!(ends(&quiet_run(good, &ring, &mut frame[..63], 9).1), None);
-    assert_eq!(ends(&quiet_run(State { read: 1_024, ..good }, &ring, &mut frame, 9).1), None);
-    assert_eq!(ends(&quiet_run(State { stop: 28, ..good }, &ring, &mut frame, 9).1), None);
-}
-
-/// A BLT with host source answers by its load, whatever becomes of it; its data commands answer none.
-#[test]
-fn ends_of_pictures() {
-    for (then, number) in [(fill(DRAWING_BLT, 40), 30), (vec![1 << 27], 21), (vec![DATA_COMMAND, 0], 32), (Vec::new(), 0)] {
-        let words = [two_rows_of_five(), data(1, &counting_words(1)), then].concat();
-        let (ring, mut frame) = (ring_with(0, &words), [0; 64]);
-        let state = state_at(0, words.len() as u32, 64);
-        let (whole, answer) = quiet_run(state, &ring, &mut frame, u32::MAX);
-        assert_eq!((whole.stop, ends(&answer)), (number, Some((0, 9))));
-        // the load; the data command; its pixels and the stop
-        let (state, answer) = quiet_run(state, &ring, &mut frame, 1);
-        assert_eq!(ends(&answer), Some((0, 9)));
-        let (state, answer) = quiet_run(state, &ring, &mut frame, 1);
-        assert_eq!((data_wanted(&state), ends(&answer)), (false, None));
-        let (state, answer) = quiet_run(state, &ring, &mut frame, u32::MAX);
-        assert_eq!((state, ends(&answer)), (whole, None));
-    }
-    let back = host_blt(&[(RASTER_MODE, 6 << 28 | 0xCC), (DST_OFFSET, 41), (WID_HEIGHT, 3 << 16 | 1), (BLT_MODE, X_NEGATIVE)]);
-    assert_eq!(ends_of(&[back], 64).1, Some((36, 41)));
-}
-
-/// With bases: a fill and a vector on base 1, and both screens by one run; a source's base has no part in it.
-#[test]
-fn ends_on_bases() {
-    let frame_len = 2 * GRANULE as u32;
-    let on = |base: u32, offset: u32| {
-        let values = [(RASTER_MODE, 8 << 28 | 0xF0), (DST_OFFSET, offset), (STRIDE, 100), (WID_HEIGHT, 3 << 16 | 2)];
-        blt(DRAWING_BLT, &[&values[..], &[(BASE_OFFSET, bases(base, 0, 0))]].concat())
-    };
-    assert_eq!(ends_of(&[on(1, 7)], frame_len).1, Some((GRANULE + 7, GRANULE + 118)));
-    assert_eq!(ends_of(&[on(1, 7), on(0, 50)], frame_len).1, Some((50, GRANULE + 118)));
-    assert_eq!(ends_of(&[on(0, 50), on(1, 7), on(0, 60)], frame_len).1, Some((50, GRANULE + 118)));
-    assert_eq!(ends_of(&[on(0, GRANULE as u32 - 4)], frame_len).1, Some((GRANULE - 4, GRANULE + 107)));
-    let line = [(RASTER_MODE, 6 << 28 | 0xF0), (DST_OFFSET, 2), (STRIDE, 100), (VEC_LEN, 3 << 16), (BASE_OFFSET, bases(1, 1_023, 1_023))];
-    assert_eq!(ends_of(&[vector(&line)], frame_len).1, Some((GRANULE - 202, GRANULE + 3)));
-    let copy = [(RASTER_MODE, 0xCC), (DST_OFFSET, 9), (WID_HEIGHT, 4 << 16 | 1), (BLT_MODE, FRAME_MEMORY), (BASE_OFFSET, bases(0, 1, 5))];
-    assert_eq!(ends_of(&[blt(DRAWING_BLT, &copy)], frame_len).1, Some((9, 12)));
-    // a base that lies behind: 27, and nothing of it is told
-    assert_eq!(ends_of(&[on(1, 7), on(2, 0)], frame_len).1, Some((GRANULE + 7, GRANULE + 118)));
-}
-
-/// The end of what replay writes: a stop tells what was accepted before it; loads alone and a refused call tell none.
-#[test]
-fn told_by_replay() {
-    let told = |list: &[Vec<u32>], position: u32, budget: u32| {
-        let mut input: Vec<u8> = [1_024, 64, position, budget].iter().flat_map(|word: &u32| word.to_le_bytes()).collect();
-        input.extend(ring_with(0, &list.concat()).iter().flat_map(|word| word.to_le_bytes()));
-        let lines = replay(&input, &mut Nobody).0;
-        lines.lines().skip(4).collect::<Vec<_>>().join(" ")
-    };
-    let two = [fill(DRAWING_BLT, 20), copy_from_outside(40)];
-    assert_eq!(told(&two, 34, u32::MAX), "state=stopped refusal=28 low=20 high=23");
-    assert_eq!(told(&two, 34, 1), "state=spent refusal=0 low=20 high=23");
-    assert_eq!(told(&two, 34, 0), "state=spent refusal=0 low=none high=none");
-    assert_eq!(told(&two, 16, u32::MAX), "state=waiting refusal=0 low=none high=none");
-    assert_eq!(told(&two, 1_024, u32::MAX), "state=refused refusal=5 low=none high=none");
-    assert_eq!(told(&two[1..], 17, u32::MAX), "state=stopped refusal=28 low=none high=none");
-    assert_eq!(told(&[fill(0x7FFF, 20)], 17, u32::MAX), "state=waiting refusal=0 low=none high=none");
-}
-
-/// What the program for large memory tells: with one publish and one run, not with a list of calls.
-#[test]
-fn told_of_a_draw() {
-    let words: String = fill(DRAWING_BLT, 10).iter().map(|word| format!(" {word:x}")).collect();
-    for (end, wanted) in [
-        ("draw 17 100\n", "units=5\nretired=1\nnumber=0\nlow=10\nhigh=13\na 5a5a5a5a\n"),
-        ("draw 17 1\n", "units=1\nretired=0\nnumber=0\nlow=10\nhigh=13\n"),
-        ("draw 17 0\n", "units=0\nretired=0\nnumber=0\nlow=none\nhigh=none\n"),
-        ("draw 1024 100\n", "units=0\nretired=0\nnumber=5\nlow=none\nhigh=none\n"),
-        ("p 17\nr 100\n", "units=5\nretired=1\na 5a5a5a5a\n"),
-    ] {
-        let case = stream::parse(&format!("ring 1024\nframe 64\nw 0{words}\n{end}"));
-        assert_eq!(case.map(|case| large(&case, &mut Nobody)), Some(wanted.to_string()));
-    }
-}
-
 // ---- The ring and the programs --------------------------------------------------------------------------------------------------
 
 #[test]
 fn ring_of_1024() {
-    assert_eq!(setup(1_024, 16).1, Answer { word: Word::Zero, units: 0, room: 1_023, extent: None });
+    assert_eq!(setup(1_024, 16).1, Answer { word: Word::Zero, units: 0, room: 1_023 });
     let full = state_at(0, 1_023, 16);
     assert_eq!(room(full).1.room, 0);
-    assert_eq!(publish(full, 0), (full, Answer { word: Word::Refused(6), units: 0, room: 0, extent: None }));
+    assert_eq!(publish(full, 0), (full, Answer { word: Word::Refused(6), units: 0, room: 0 }));
     assert_eq!(publish(full, 1_023).1.word, Word::Zero);
     assert_eq!(publish(full, 1_024).1.word, Word::Refused(5));
 
@@ -1863,7 +1618,7 @@ fn rows_1_to_4() {
         [(0, 0, 1), (64, 1, 1), (1_023, 1, 1), (262_145, 0, 1), (1_024, 0, 2), (262_144, 67_108_865, 2)]
     {
         let (state, answer) = setup(ring_len, frame_len);
-        assert_eq!((state, answer), (ZEROS, Answer { word: Word::Refused(wanted), units: 0, room: 0, extent: None }));
+        assert_eq!((state, answer), (ZEROS, Answer { word: Word::Refused(wanted), units: 0, room: 0 }));
     }
     let good = state_at(0, 0, 16);
     let drawing = |drawn| {
@@ -1906,7 +1661,7 @@ fn replay_example() {
     input.extend(ring_with(0, &words).iter().flat_map(|word| word.to_le_bytes()));
     assert_eq!(input.len(), 4 * 1_028);
     let (lines, frame) = replay(&input, &mut Nobody);
-    assert_eq!(lines, "retired=1\nunits=9\nread=17\nwrite=17\nstate=waiting\nrefusal=0\nlow=10\nhigh=29\n");
+    assert_eq!(lines, "retired=1\nunits=9\nread=17\nwrite=17\nstate=waiting\nrefusal=0\n");
     for (at, byte) in frame.iter().enumerate() {
         let inside = (10..14).contains(&at) || (26..30).contains(&at);
         assert_eq!(*byte, if inside { 0x5A } else { 0 });
@@ -1917,7 +1672,7 @@ fn replay_example() {
     // with the ring of 64 words that it had
     input.truncate(4 * 68);
     input[..4].copy_from_slice(&64u32.to_le_bytes());
-    assert_eq!(replay(&input, &mut Nobody).0, "retired=0\nunits=0\nread=0\nwrite=0\nstate=refused\nrefusal=1\nlow=none\nhigh=none\n");
+    assert_eq!(replay(&input, &mut Nobody).0, "retired=0\nunits=0\nread=0\nwrite=0\nstate=refused\nrefusal=1\n");
 
     // the same by a trace
     let mut records = vec![1_024u32, 64];

@@ -51,12 +51,11 @@ pub fn parse(text: &str) -> Option<Case> {
     Some(case)
 }
 
-/// What a case gives; a list of calls tells neither the number nor, W7, the lowest and the highest byte.
-pub fn told(units: u64, retired: u32, of_draw: Option<(u32, Option<(i64, i64)>)>, frame: &[u8]) -> String {
+/// What a case gives; a list of calls does not tell the number.
+pub fn told(units: u64, retired: u32, number: Option<u32>, frame: &[u8]) -> String {
     let mut text = format!("units={units}\nretired={retired}\n");
-    if let Some((number, ends)) = of_draw {
+    if let Some(number) = number {
         text += &format!("number={number}\n");
-        text += &low_and_high(ends);
     }
     const ZEROS: [u8; 4_096] = [0; 4_096];
     let mut inside = false;
@@ -78,14 +77,6 @@ pub fn told(units: u64, retired: u32, of_draw: Option<(u32, Option<(i64, i64)>)>
         }
     }
     text + if inside { "\n" } else { "" }
-}
-
-/// W7: "lines low= and high= (or none)"
-pub fn low_and_high(ends: Option<(i64, i64)>) -> String {
-    match ends {
-        Some((low, high)) => format!("low={low}\nhigh={high}\n"),
-        None => "low=none\nhigh=none\n".to_string(),
-    }
 }
 
 /// Frame memory of this length with these runs, the other bytes 0; lines of numbers and comments are passed over.

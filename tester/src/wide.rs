@@ -71,18 +71,6 @@ const NEEDED: &[(&str, &[&str])] = &[
             "a BLT, for a vector", "kept for a second command", "kept over a refusal",
         ],
     ),
-    (
-        "low and high",
-        &[
-            "none told", "none told: 27", "none told: 28", "told of one command", "told of over 300 commands",
-            "told of a run that 27 stopped above all", "told of a run that 28 stopped below all", "told of a run that 28 stopped above all",
-            "low above 4 MiB, on a base", "low above 16 MiB, on a base", "low above 32 MiB, on a base", "low and high on two bases",
-            "low on base 0, high on a base", "low and high over 16 MiB apart", "low and high over 32 MiB apart", "low of a BLT on a base",
-            "low of a host BLT on a base", "low of a vector on a base", "high of a BLT on a base", "high of a host BLT on a base",
-            "high of a vector on a base", "low before its base", "high beyond 16 MiB from its base", "high is the last byte of 48 MiB",
-            "high is the last byte of 64 MiB",
-        ],
-    ),
 ];
 
 /// At each depth and direction of X.
@@ -332,27 +320,6 @@ fn draw(rng: &mut Rng, turn: usize) -> String {
     let commands = writer.rng.between(1, 12);
     writer.commands(commands);
     writer.outside(turn / FAR.len() % OUTSIDE.len(), turn % FAR.len());
-    writer.end()
-}
-
-/// W7: one publish and one run of few commands, so that each may have the lowest or the highest byte, at times before one that lies outside.
-pub fn short_case(rng: &mut Rng, number: u64) -> String {
-    let frame_len = if rng.chance(1, 2) { rng.pick(&[WIDE_PANEL, LARGEST_FRAME]) } else { some_frame_length(rng) };
-    let mut writer = Writer::new(rng, 4_096, frame_len, false);
-    let commands = if number % 5 == 0 { 0 } else { writer.rng.pick(&[1, 1, 2]) };
-    for _ in 0..commands {
-        let way = writer.rng.pick(&[Way::Fill, Way::Host, Way::Vector]);
-        let r = writer.wish(way);
-        let counts = if way == Way::Host { cases::split(writer.rng, &r) } else { Vec::new() };
-        match way {
-            Way::Vector => writer.put(Kind::Vector, &r, true),
-            _ => writer.blt_and_data(&r, &counts),
-        }
-    }
-    if commands == 0 || writer.rng.chance(3, 4) {
-        let (what, far) = (number as usize / 5 % OUTSIDE.len(), writer.rng.below(FAR.len() as u64) as usize);
-        writer.outside(what, far);
-    }
     writer.end()
 }
 
@@ -725,10 +692,6 @@ pub struct Kinds {
     last: Option<(i64, i64)>,
     /// of this case
     frame_len: u32,
-    /// this case is one publish and one run, so that low and high are told; the commands that it accepted, and where a refused one would lie
-    draw: bool,
-    accepted: Vec<(Kind, Registers)>,
-    outside: Option<(i64, i64)>,
 }
 
 impl Kinds {
@@ -743,19 +706,7 @@ impl Kinds {
         for name in refusals() {
             count.insert(name, 0);
         }
-        Kinds {
-            count,
-            base: None,
-            drawn: 0,
-            passed: 0,
-            restarted: false,
-            refused_since: false,
-            last: None,
-            frame_len: 0,
-            draw: false,
-            accepted: Vec::new(),
-            outside: None,
-        }
+        Kinds { count, base: None, drawn: 0, passed: 0, restarted: false, refused_since: false, last: None, frame_len: 0 }
     }
 
     pub fn begin_case(&mut self, case: &Case) {
@@ -765,9 +716,6 @@ impl Kinds {
         self.refused_since = false;
         self.last = None;
         self.frame_len = case.frame_len;
-        self.draw = case.draw.is_some();
-        self.accepted.clear();
-        self.outside = None;
     }
 
     fn hit_if(&mut self, condition: bool, name: &str) {
@@ -840,7 +788,6 @@ impl Kinds {
     fn loaded(&mut self, before: &State, ring: &[u32], kind: Kind, after: &State) {
         let header = model::ring_word(before, ring, 0);
         self.drawn += 1;
-        self.accepted.push((kind, after.registers));
         self.hit_panel(after, before.read > 16_384, "draws behind ring word 16,384");
         self.hit_panel(after, before.read > 65_536, "draws behind ring word 65,536");
         self.hit_panel(after, before.read > 200_000, "draws behind ring word 200,000");
@@ -968,7 +915,6 @@ impl Kinds {
             return;
         };
         let r = model::registers_after(before, ring, kind);
-        self.outside = Some(span(kind, &r, false));
         let source = number == 28;
         let (low, high) = span(kind, &r, source);
         let frame_len = i64::from(before.frame_len);
@@ -987,57 +933,6 @@ impl Kinds {
         for (bits, far) in [(24, FAR[3]), (26, FAR[4]), (32, FAR[5])] {
             let size = 1 << bits;
             hit(low >= size && low / size == high / size && inside(low % size), far);
-        }
-    }
-
-    /// What a run answers of low and high.
-    fn told(&mut self, answer: &Answer, after: &State) {
-        let accepted = std::mem::take(&mut self.accepted);
-        let stopped = [27, 28].contains(&after.stop);
-        let Some((low, high)) = answer.extent.map(|extent| (extent.low, extent.high)) else {
-            self.hit_if(true, "none told");
-            self.hit_if(stopped, &format!("none told: {}", after.stop));
-            return;
-        };
-        self.hit_if(accepted.len() == 1, "told of one command");
-        self.hit_if(accepted.len() > 300, "told of over 300 commands");
-        if let Some((first, last)) = self.outside.filter(|_| stopped) {
-            self.hit_if(first < low && after.stop == 28, "told of a run that 28 stopped below all");
-            self.hit_if(last > high, &format!("told of a run that {} stopped above all", after.stop));
-        }
-        self.hit_if(high - low > REGION, "low and high over 16 MiB apart");
-        self.hit_if(high - low > 2 * REGION, "low and high over 32 MiB apart");
-        for frame_len in [WIDE_PANEL, LARGEST_FRAME] {
-            let last = after.frame_len == frame_len && high == i64::from(frame_len) - 1;
-            self.hit_if(last, &format!("high is the last byte of {} MiB", frame_len >> 20));
-        }
-        // the one command that has the lowest byte, and the one that has the highest
-        let alone = |has: &dyn Fn((i64, i64)) -> bool| {
-            let mut all = accepted.iter().filter(|(kind, r)| has(span(*kind, r, false)));
-            all.next().filter(|_| all.next().is_none())
-        };
-        let (lowest, highest) = (alone(&|(first, _)| first == low), alone(&|(_, last)| last == high));
-        let base = |of: Option<&(Kind, Registers)>| of.map(|(_, r)| model::destination_base(r));
-        for (name, of) in [("low", lowest), ("high", highest)] {
-            if let Some((kind, r)) = of.filter(|_| base(of) > Some(0)) {
-                let what = match way_of(*kind, r) {
-                    "vector" => "a vector",
-                    "host" => "a host BLT",
-                    _ => "a BLT",
-                };
-                self.hit_if(true, &format!("{name} of {what} on a base"));
-            }
-        }
-        if let Some(base) = base(lowest).filter(|base| *base > 0) {
-            self.hit_if(low > GRANULE, "low above 4 MiB, on a base");
-            self.hit_if(low > REGION, "low above 16 MiB, on a base");
-            self.hit_if(low > 2 * REGION, "low above 32 MiB, on a base");
-            self.hit_if(low < base, "low before its base");
-        }
-        if let (Some(below), Some(above)) = (base(lowest), base(highest)) {
-            self.hit_if(below > 0 && above > 0 && below != above, "low and high on two bases");
-            self.hit_if(below == 0 && above > 0, "low on base 0, high on a base");
-            self.hit_if(above > 0 && high - above >= REGION, "high beyond 16 MiB from its base");
         }
     }
 
@@ -1121,9 +1016,6 @@ impl Watch for Kinds {
                 self.hit_panel(after, self.drawn > 300, "over 300 commands drawn by one run");
                 self.hit_panel(after, self.passed > 65_535, "over 65,535 words passed by one run");
                 (self.drawn, self.passed) = (0, 0);
-                if self.draw {
-                    self.told(answer, after);
-                }
             }
             _ => {}
         }

@@ -5,8 +5,7 @@ ghost use Rattle.bench.specs.Numbers.{Told};
 ghost use Rattle.bench.specs.Lists.{is_list, driven, Drove};
 
 // Setup for the ring and the frame memory lent, one publish and one run, up to the first call that is refused. Answers the
-// units done; `retired` gets the completion number, `number` that of the refusal or of the stop, or 0, `low` and `high` the lowest
-// and the highest byte that the drawing commands cover which the run accepted, or 1 and 0.
+// units done; `retired` gets the completion number, `number` that of the refusal or of the stop, or 0.
 #[unsafe(no_mangle)]
 pub extern "C" fn bench_draw(
     ring: &[u32],
@@ -15,22 +14,16 @@ pub extern "C" fn bench_draw(
     budget: u32,
     retired: &mut u32,
     number: &mut u32,
-    low: &mut usize,
-    high: &mut usize,
 ) -> u32
-    ensures told { Told (replay ring.now frame.old write budget) result retired.new number.new low.new high.new }
+    ensures told { Told (replay ring.now frame.old write budget) result retired.new number.new }
     ensures frame_after { frame.new ≡ replay_frame ring.now frame.old write budget }
 {
     let a = recording::replay(ring, frame, write, budget);
     let parts = text::parts_of(a);
-    let covered = a.covered;
-    let span = text::span_of(covered);
     let s = a.state;
     let c = s.core;
     *retired = c.completion;
     *number = parts.last;
-    *low = span.low;
-    *high = span.high;
     parts.units
 }
 

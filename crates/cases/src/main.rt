@@ -26,7 +26,7 @@ fn is_drawn_at_12() -> bool {
     let ended = ends(
         &ring,
         &mut frame,
-        b"retired=1\nunits=5\nread=17\nwrite=17\nstate=waiting\nrefusal=0\nlow=12\nhigh=15\n",
+        b"retired=1\nunits=5\nread=17\nwrite=17\nstate=waiting\nrefusal=0\n",
     );
     ended && check::same(&frame, b"\0\0\0\0\0\0\0\0\0\0\0\0ZZZZ")
 }
@@ -37,7 +37,7 @@ fn is_refused_at_13() -> bool {
     let ended = ends(
         &ring,
         &mut frame,
-        b"retired=0\nunits=1\nread=0\nwrite=17\nstate=stopped\nrefusal=27\nlow=none\nhigh=none\n",
+        b"retired=0\nunits=1\nread=0\nwrite=17\nstate=stopped\nrefusal=27\n",
     );
     ended && check::same(&frame, b"\0\0\0\0\0\0\0\0\0\0\0\0\0\0\0\0")
 }
@@ -49,7 +49,7 @@ fn is_example() -> bool {
     let ended = ends(
         &ring,
         &mut frame,
-        b"retired=1\nunits=9\nread=17\nwrite=17\nstate=waiting\nrefusal=0\nlow=10\nhigh=29\n",
+        b"retired=1\nunits=9\nread=17\nwrite=17\nstate=waiting\nrefusal=0\n",
     );
     ended
         && check::same(

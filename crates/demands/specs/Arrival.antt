@@ -1,11 +1,10 @@
--- Units along one run of words: as long as the write pointer stays on the run, each unit is the unit of the whole run, gives
--- the same bytes, and could be done with the final pointer in.
+-- Units along one run of words: as long as the write pointer stays on the run, each unit is the unit of the whole run, and
+-- could be done with the final pointer in.
 use Rattle.std.specs.Prelude.{ℕ, zero, suc, ◌+◌, ◌-◌, ◌%◌, ◌≤◌, ◌<◌, ◌≡◌, Bool, ◌||◌, List, [], ◌∷◌, length}
-use Rattle.std.proofs.Math.Path.{refl, sym, ap}
-use Rattle.std.proofs.Common.{subst, ◌∙◌, arith, add-zero, mod-lt, mod-eq_of_lt}
+use Rattle.std.proofs.Math.Path.{refl, ap}
+use Rattle.std.proofs.Common.{sym, subst, ◌∙◌, arith, add-zero, mod-lt, mod-eq_of_lt, ltb-false, eqb-true}
 use Rattle.std.proofs.Math.Bool.{true, false}
 use Rattle.std.proofs.Math.Nat.{mod_self}
-use borrow.Author.Tests.{ltb-false, eqb-true, eqb-false}
 use Rattle.model.specs.Choice.{◌<?◌, ◌≤?◌, ◌=?◌, if◌then◌else◌, not_both, neither}
 use Rattle.model.specs.Refusals.{Rule, ◌when◌, first}
 use Rattle.model.specs.Ring.{Agree, distance, waiting, word_at, distance_lt, distance_leads, empty}
@@ -14,16 +13,13 @@ use Rattle.model.specs.Command.{kind_of, bad_header, word_registers, count_place
 use Rattle.model.specs.Host.{host_word, draw_host}
 use Rattle.model.specs.Unit.{Machine, Done, header_at, loaded_at, counted_at, length_at, returns_at, header_refusal, drawn_rules, command_refusal, needed, ready, stopped, loaded_core, taken_core, accepted_core, table_after, pixel_count, drawn_core, fed_word, fed_core, unit, wants, drawing, done, possible, units}
 use Rattle.model.specs.Steps.{machine, Step, loads, takes, refuses, draws, feeds, step_of, possible_later}
-use Rattle.model.specs.Covers.{command_bytes, unit_bytes, units_bytes}
 use Rattle.model.specs.declared.Core.{Core}
-use Rattle.model.specs.declared.Covered.TheVariants.{None}
 use Rattle.model.specs.declared.Feed.{Feed}
 use Rattle.model.specs.declared.Kind.{Kind}
 use Rattle.model.specs.declared.Kind.TheVariants.{Blt, Vector, Table, Data}
 use Rattle.model.specs.declared.Primitive.TheVariants.{Blt as BltPrimitive}
 use Rattle.laws.specs.Modular.{distance_sum, distance_next}
 use Rattle.laws.specs.Units.{unit_accepts, unit_refuses, unit_draws, unit_feeds, drawing_possible, idle_possible, possible_running, possible_ready, units_zero, units_step, units_each}
-use Rattle.laws.specs.Covers.{pixel_none, command_gives, refused_none, bytes_zero, bytes_stop, bytes_step}
 use Rattle.laws.specs.Fit.{Fit, FitFed, fed_fit, command_first, accepted_header, accepted_return, fit_unit}
 use Rattle.laws.specs.WellFormed.{unit_keeps}
 use Rattle.demands.specs.Waits.{good_header, own_words, Needs, its_header, all_words, needs_of, needs_judged, needs_some, whole_waits, ready_needs, ready_whole}
@@ -200,14 +196,6 @@ start_first false true d rules others e = refl
 start_first false false true rules others e = refl
 start_first false false false rules others e = absurd (not_both false e refl)
 
--- at most k units with the write pointer at w are so many units with the final pointer in, and give their bytes
-pub record Taken (n o f w : ℕ) (ring all : List ℕ) (k used : ℕ) (m : Machine) (d : Done) : Type 0 where
-  pub count : ℕ
-  pub used_is : d.used ≡ used + count
-  pub same : units all f count used m ≡ d
-  pub bytes : units_bytes ring w k m ≡ units_bytes all f count m
-  pub stays : OnRun n o f w d.machine.core
-
 module _ (n o f w : ℕ) (ring all : List ℕ) (ring_is : length ring ≡ n) (all-is : length all ≡ n) (agree : Agree ring all n o w) where
   module _ (c : Core) (on : OnRun n o f w c) where
     -- word k from the read pointer, where more than k wait
@@ -319,17 +307,6 @@ module _ (n o f w : ℕ) (ring all : List ℕ) (ring_is : length ring ≡ n) (al
     core_same z =
         let good = accepted_header ring c z in rw (loaded_same good, count_same (good_start good), header_same)
 
-    -- the command's bytes
-    command_same : command_bytes ring c ≡ command_bytes all c
-    unfolding command_bytes
-    command_same = go (command_refusal ring c =? 0) refl
-      where
-        go : (b : Bool) → command_refusal ring c =? 0 ≡ b → command_bytes ring c ≡ command_bytes all c
-        go true e = rw (loaded_same (accepted_header ring c (eqb-true _ _ e)), header_same, refusal_same)
-        go false e =
-            let n = eqb-false (command_refusal ring c) 0 e in
-            refused_none ring c n ∙ sym (refused_none all c (rw refusal_same at n))
-
   pub unit_same : (m : Machine) → OnRun n o f w m.core → possible ring m.core w ≡ true
       → (possible all m.core w ≡ true) × (unit ring m ≡ unit all m)
   unit_same m on e = go (step_of ring m)
@@ -367,19 +344,18 @@ module _ (n o f w : ℕ) (ring all : List ℕ) (ring_is : length ring ≡ n) (al
             ∙ sym (unit_feeds all m k feed p),
       )
 
-  -- and gives the same bytes
-  pub bytes_same : (c : Core) → OnRun n o f w c → possible ring c w ≡ true → unit_bytes ring c ≡ unit_bytes all c
-  bytes_same c on e = go (drawing c.place) refl
-    where
-      go : (b : Bool) → drawing c.place ≡ b → unit_bytes ring c ≡ unit_bytes all c
-      go true p = pixel_none ring c p ∙ sym (pixel_none all c p)
-      go false p = command_gives ring c p ∙ command_same c on (possible_ready ring c w p e) ∙ sym (command_gives all c p)
+  -- ---- a run with the write pointer at w is as many units with the final pointer in
 
-  pub units_taken : (k used : ℕ) (m : Machine) → OnRun n o f w m.core → Taken n o f w ring all k used m (units ring w k used m)
+  pub record Taken (used : ℕ) (m : Machine) (d : Done) : Type 0 where
+    pub count : ℕ
+    pub used_is : d.used ≡ used + count
+    pub same : units all f count used m ≡ d
+    pub stays : OnRun n o f w d.machine.core
+
+  pub units_taken : (k used : ℕ) (m : Machine) → OnRun n o f w m.core → Taken used m (units ring w k used m)
   units_taken =
-      units_each ring w (λ k used m d. OnRun n o f w m.core → Taken n o f w ring all k used m d)
-      (λ used m. none 0 used m (bytes_zero ring w m))
-      (λ k used m e. none k used m (bytes_stop ring w k m e))
+      units_each ring w (λ k used m d. OnRun n o f w m.core → Taken used m d)
+      none (λ k used m e. none used m)
       (λ k used m d e i on.
       let t = i (unit_on n o f w ring m on e) in
       let s = unit_same m on e in
@@ -388,19 +364,11 @@ module _ (n o f w : ℕ) (ring all : List ℕ) (ring_is : length ring ≡ n) (al
         count = suc t.count;
         used_is = t.used_is ∙ omega arith;
         same = units_step all f t.count used m p ∙ ap (units all f t.count (used + 1)) (sym s.1) ∙ t.same;
-        bytes = bytes_step ring w k m e ∙ rw (bytes_same m.core on e, t.bytes, s.1) (sym (bytes_step all f t.count m p));
         stays = t.stays;
       })
     where
-      none : (k used : ℕ) (m : Machine) → units_bytes ring w k m ≡ None → OnRun n o f w m.core
-          → Taken n o f w ring all k used m (done m used)
-      none k used m b on = record {
-        count = 0;
-        used_is = sym (add-zero used);
-        same = units_zero all f used m;
-        bytes = b ∙ sym (bytes_zero all f m);
-        stays = on;
-      }
+      none : (used : ℕ) (m : Machine) → OnRun n o f w m.core → Taken used m (done m used)
+      none used m on = record { count = 0; used_is = sym (add-zero used); same = units_zero all f used m; stays = on }
 
       waits_more : (m : Machine) → OnRun n o f w m.core
           → waiting m.core.ringlength m.core.read w ≤ waiting m.core.ringlength m.core.read f

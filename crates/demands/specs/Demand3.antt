@@ -13,7 +13,7 @@ use Rattle.laws.specs.Fit.{fit_parts, parts_fit, fit_later}
 use Rattle.laws.specs.WellFormed.{WellFormed, wellformed_units}
 use Rattle.demands.specs.Courses.{configuration, machine_in, performs_course, Did, did}
 use Rattle.demands.specs.Runs.{rests_impossible, impossible_rests, runs_total}
-use Rattle.demands.specs.Arrival.{OnRun, on_here, on_back, Taken, units_taken}
+use Rattle.demands.specs.Arrival.{OnRun, on_here, on_back, units_taken}
 use Rattle.demands.specs.Progress.{enough_runs, progress}
 
 -- ---- the statement: the calls
@@ -103,21 +103,12 @@ Demand3Fed =
 
 module _ (all : List ℕ) (s : State) (frame : List ℕ) (final : ℕ) where
   -- after a prefix of the calls: on the run, and as many units as with the final pointer in
-  pub record Reached (y : Configuration) : Type 0 where
-    pub on : OnRun s.core.ringlength s.core.read final y.state.write y.state.core
-    pub plain : units all final y.sum 0 (machine_of s frame) ≡ done (machine_in y) y.sum
+  record Reached (y : Configuration) : Type 0 where
+    on : OnRun s.core.ringlength s.core.read final y.state.write y.state.core
+    plain : units all final y.sum 0 (machine_of s frame) ≡ done (machine_in y) y.sum
 
   module _ (all-is : length all ≡ s.core.ringlength) where
-    -- an accepted run is as many units with the final pointer in
-    pub run_taken : (ring : List ℕ) (budget used : ℕ) (y : Configuration) → Reached y → length ring ≡ y.state.core.ringlength
-        → Accepted (run ring y.state y.frame budget) → Words all s ring (running budget) y
-        → Taken s.core.ringlength y.state.core.read final y.state.write ring all budget used (machine_in y)
-        (units ring y.state.write budget used (machine_in y))
-    run_taken ring budget used y h ring_is a words =
-        units_taken s.core.ringlength y.state.core.read final y.state.write ring all (ring_is ∙ h.on.size_is) all-is (words a)
-        budget used (machine_in y) (on_here h.on)
-
-    pub call_reached : (ring : List ℕ) (y : Configuration) {call : Call} {z : Configuration} → Did ring y call z → Reached y
+    call_reached : (ring : List ℕ) (y : Configuration) {call : Call} {z : Configuration} → Did ring y call z → Reached y
         → Allowed s final call y → Words all s ring call y → Reached z
     call_reached ring y (Did.refuses n) h allowed words = h
     call_reached ring y Did.asks h allowed words = h
@@ -133,7 +124,9 @@ module _ (all : List ℕ) (s : State) (frame : List ℕ) (final : ℕ) where
       plain = h.plain;
     }
     call_reached ring y (Did.runs {budget} a f) h allowed words =
-        let t = run_taken ring budget y.sum y h f.ring_is a words in
+        let n = s.core.ringlength in
+        let t = units_taken n y.state.core.read final y.state.write ring all (f.ring_is ∙ h.on.size_is) all-is (words a)
+        budget y.sum (machine_in y) (on_here h.on) in
         record {
           on = on_back h.on _ t.stays;
           plain =
@@ -156,7 +149,7 @@ module _ (all : List ℕ) (s : State) (frame : List ℕ) (final : ℕ) (fixed : 
   m = machine_of s frame
 
   -- publishing the final position
-  pub published : (perform (record { ring = all; call = publishing final }) (start s frame) ≡ start (with_write s final) frame)
+  published : (perform (record { ring = all; call = publishing final }) (start s frame) ≡ start (with_write s final) frame)
       × (final < s.core.ringlength)
       × (waiting s.core.ringlength s.core.read s.write ≤ waiting s.core.ringlength s.core.read final)
   published = go (did all (publishing final) (start s frame))
@@ -169,7 +162,7 @@ module _ (all : List ℕ) (s : State) (frame : List ℕ) (final : ℕ) (fixed : 
       go (Did.publishes a l r) = (refl, l, r)
 
   -- the start is on the run: no words wait between the read pointer and itself
-  pub reached_start : Reached all s frame final (start s frame)
+  reached_start : Reached all s frame final (start s frame)
   unfolding waiting
   reached_start =
       let f = fit_parts s fixed.state_fit in
@@ -273,7 +266,7 @@ demand3_fed all s frame final calls fixed accepted along = (
 )
 
 -- one ring lent at every call agrees with itself
-pub along_fed : (ring : List ℕ) (s : State) (final : ℕ) (calls : List Call) (y : Configuration) → Along ring s final calls y
+along_fed : (ring : List ℕ) (s : State) (final : ℕ) (calls : List Call) (y : Configuration) → Along ring s final calls y
     → AlongFed ring s final (lent ring calls) y
 along_fed ring s final [] y a = tt
 along_fed ring s final (x ∷ xs) y a =

@@ -9,8 +9,6 @@ pub mod Arrival
 pub mod Progress
 pub mod Demand3
 pub mod Night
-pub mod Logged
 pub mod Splits
 pub mod Raised
 pub mod Screens
-pub mod Kept

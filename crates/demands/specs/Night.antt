@@ -10,22 +10,18 @@ use Rattle.std.proofs.Math.ListN.{get_or}
 use Rattle.model.specs.Choice.{◌=?◌, if◌then◌else◌, not_both}
 use Rattle.model.specs.Ring.{Agree, distance, waiting, distance_lt, distance_leads, empty}
 use Rattle.model.specs.Unit.{Machine, Done, unit, possible, units}
-use Rattle.model.specs.Covers.{cover, unit_bytes, units_bytes}
 use Rattle.model.specs.Steps.{possible_later}
 use Rattle.model.specs.Calls.{unfit, publish, run, restart, with_write, number_of, machine_of}
 use Rattle.model.specs.Course.{Call, publishing, running, asking, restarting, Lent, Configuration, with_state}
 use Rattle.model.specs.Perform.{answer_of, perform, performs, runs, total, start, Accepted, Fixed, Rests}
 use Rattle.model.specs.declared.Core.{Core}
-use Rattle.model.specs.declared.Covered.{Covered}
-use Rattle.model.specs.declared.Covered.TheVariants.{None}
 use Rattle.model.specs.declared.State.{State}
 use Rattle.laws.specs.Modular.{distance_sum, distance_next}
 use Rattle.laws.specs.Units.{units_each}
-use Rattle.laws.specs.Covers.{none_cover, cover_assoc, bytes_zero, bytes_stop, bytes_step}
 use Rattle.laws.specs.Fit.{Fit, fit_parts, fit_later}
 use Rattle.demands.specs.Courses.{configuration, machine_in, Did, did, accepted_rules}
 use Rattle.demands.specs.Runs.{rests_impossible, impossible_rests, runs_total}
-use Rattle.demands.specs.Arrival.{OnRun, on_read, unit_on, unit_same, bytes_same}
+use Rattle.demands.specs.Arrival.{OnRun, on_read, unit_on, unit_same}
 use Rattle.demands.specs.Lasting.{lasting}
 use Rattle.demands.specs.Progress.{enough_runs, fixed_wellformed, progress}
 
@@ -56,13 +52,6 @@ tape_unit tape x =
 abbrev pub tape_units : (ℕ → ℕ) → ℕ → Reading → Reading
 tape_units tape zero x = x
 tape_units tape (suc k) x = tape_units tape k (tape_unit tape x)
-
--- W7: the lowest and highest over all drawing commands that they accept
-abbrev pub tape_bytes : (ℕ → ℕ) → ℕ → Reading → Covered
-tape_bytes tape zero x = None
-tape_bytes tape (suc k) x =
-    let c = x.machine.core in
-    cover (unit_bytes (window tape c.ringlength x.at) c) (tape_bytes tape k (tape_unit tape x))
 
 -- a further unit can be done with the words before number `written`: with a write pointer w that is no further on
 abbrev pub Further : (ℕ → ℕ) → ℕ → Reading → Type 0
@@ -327,17 +316,15 @@ record Stepped (tape : ℕ → ℕ) (n w written : ℕ) (ring : List ℕ) (m : M
   next : ℕ
   forward : at ≤ next
   same : tape_unit tape (reading m at) ≡ reading (unit ring m) next
-  bytes : unit_bytes ring m.core ≡ unit_bytes (window tape m.core.ringlength at) m.core
   here : Here n w written next (unit ring m).core
 
--- some units over a ring, at most k, are as many over the tape, and give their bytes
-pub record Taken (tape : ℕ → ℕ) (n w written : ℕ) (ring : List ℕ) (k used : ℕ) (x : Reading) (d : Done) : Type 0 where
-  pub count : ℕ
-  pub used_is : d.used ≡ used + count
+-- some units over a ring are as many over the tape
+record Taken (tape : ℕ → ℕ) (n w written used : ℕ) (x : Reading) (d : Done) : Type 0 where
+  count : ℕ
+  used_is : d.used ≡ used + count
   at : ℕ
   forward : x.at ≤ at
   same : tape_units tape count x ≡ reading d.machine at
-  pub bytes : units_bytes ring w k x.machine ≡ tape_bytes tape count x
   here : Here n w written at d.machine.core
   each : (k : ℕ) → k < count → Further tape written (tape_units tape k x)
 
@@ -360,35 +347,30 @@ module _ (tape : ℕ → ℕ) (n w written : ℕ) (ring : List ℕ) (ring_is : l
         same =
             ap (λ (q : ℕ). let k = unit (window tape q at) m in reading k (at + distance q c.read k.core.read)) here.size_is
             ∙ ap (λ (k : Machine). reading k (at + distance n c.read k.core.read)) (sym u.1);
-        bytes =
-            bytes_same n c.read w w ring (window tape n at) ring_is (length_window tape n at) agree c on e
-            ∙ ap (λ (q : ℕ). unit_bytes (window tape q at) c) (sym here.size_is);
         here = here_next tape n w written at c here (unit ring m).core (unit_on n c.read w w ring m on e);
       }
 
-  taken_none : (k used : ℕ) (m : Machine) (at : ℕ) → units_bytes ring w k m ≡ None → Here n w written at m.core
-      → Taken tape n w written ring k used (reading m at) (record { machine = m; used = used })
-  taken_none k used m at none here =
+  taken_none : (used : ℕ) (m : Machine) (at : ℕ) → Here n w written at m.core
+      → Taken tape n w written used (reading m at) (record { machine = m; used = used })
+  taken_none used m at here =
       record {
         count = 0;
         used_is = rw add-zero;
         at = at;
         forward = omega arith;
         same = refl;
-        bytes = none;
         here = here;
         each = λ k h. absurd (omega arith);
       }
 
   units_taken : (k used : ℕ) (m : Machine) (at : ℕ) → Here n w written at m.core
-      → ((k : ℕ) → at ≤ k → k < written → get_or ring (k % n) 0 ≡ tape k)
-      → Taken tape n w written ring k used (reading m at) (units ring w k used m)
+      → ((k : ℕ) → at ≤ k → k < written → get_or ring (k % n) 0 ≡ tape k) → Taken tape n w written used (reading m at) (units ring w k used m)
   units_taken =
       units_each ring w
       (λ k used m d. (at : ℕ) → Here n w written at m.core → ((k : ℕ) → at ≤ k → k < written → get_or ring (k % n) 0 ≡ tape k)
-      → Taken tape n w written ring k used (reading m at) d)
-      (λ used m at here holds. taken_none 0 used m at (bytes_zero ring w m) here)
-      (λ k used m e at here holds. taken_none k used m at (bytes_stop ring w k m e) here)
+      → Taken tape n w written used (reading m at) d)
+      (λ used m at here holds. taken_none used m at here)
+      (λ k used m e at here holds. taken_none used m at here)
       (λ k used m d e i at here holds.
       let t = unit_stepped m at here holds e in
       let r = i t.next t.here (λ j h l. holds j (omega (arith, t.forward)) l) in
@@ -398,13 +380,12 @@ module _ (tape : ℕ → ℕ) (n w written : ℕ) (ring : List ℕ) (ring_is : l
         at = r.at;
         forward = omega (arith, t.forward, r.forward);
         same = ap (tape_units tape r.count) t.same ∙ r.same;
-        bytes = bytes_step ring w k m e ∙ rw (t.same, t.bytes, r.bytes);
         here = r.here;
         each = each used m d at t r;
       })
     where
-      each : {k : ℕ} (used : ℕ) (m : Machine) (d : Done) (at : ℕ) (t : Stepped tape n w written ring m at)
-          → (r : Taken tape n w written ring k (used + 1) (reading (unit ring m) t.next) d)
+      each : (used : ℕ) (m : Machine) (d : Done) (at : ℕ) (t : Stepped tape n w written ring m at)
+          → (r : Taken tape n w written (used + 1) (reading (unit ring m) t.next) d)
           → (j : ℕ) → j < suc r.count → Further tape written (tape_units tape j (reading m at))
       each used m d at t r zero h = t.further
       each used m d at t r (suc j) h = subst (λ (z : Reading). Further tape written (tape_units tape j z)) (sym t.same) (r.each j (omega arith))
@@ -413,19 +394,14 @@ tape_add : (tape : ℕ → ℕ) (a b : ℕ) (x : Reading) → tape_units tape (a
 tape_add tape zero b x = rw zero-add
 tape_add tape (suc a) b x = rw suc-add (tape_add tape a b (tape_unit tape x))
 
-pub tape_bytes_lem : (tape : ℕ → ℕ) (a b : ℕ) (x : Reading)
-    → tape_bytes tape (a + b) x ≡ cover (tape_bytes tape a x) (tape_bytes tape b (tape_units tape a x))
-tape_bytes_lem tape zero b x = rw zero-add (sym (none_cover _))
-tape_bytes_lem tape (suc a) b x = rw (suc-add, tape_bytes_lem tape a b (tape_unit tape x)) (cover_assoc _ _ _)
-
 -- ---- the calls of a list, one after the other
 
 module _ (tape : ℕ → ℕ) (n : ℕ) (first : Reading) where
   -- after a prefix of the calls
-  pub record Followed (y : Configuration) (written : ℕ) : Type 0 where
-    pub at : ℕ
+  record Followed (y : Configuration) (written : ℕ) : Type 0 where
+    at : ℕ
     here : Here n y.state.write written at y.state.core
-    pub same : tape_units tape y.sum first ≡ reading (machine_in y) at
+    same : tape_units tape y.sum first ≡ reading (machine_in y) at
     each : (k : ℕ) → k < y.sum → Further tape written (tape_units tape k first)
 
   later_further : (written more : ℕ) (x : Reading) → Further tape written x → Further tape (written + more) x
@@ -465,18 +441,9 @@ module _ (tape : ℕ → ℕ) (n : ℕ) (first : Reading) where
       (subst (λ (q : ℕ). written - waiting q y.state.core.read y.state.write ≤ k) (sym h.here.size_is) (omega arith))
       (omega arith))
 
-  -- a run's units over such a ring are as many over the tape
-  pub run_taken : (ring : List ℕ) (budget used : ℕ) (y : Configuration) (written : ℕ) (h : Followed y written)
-      → length ring ≡ y.state.core.ringlength → Holds tape written ring y
-      → Taken tape n y.state.write written ring budget used (reading (machine_in y) h.at)
-      (units ring y.state.write budget used (machine_in y))
-  run_taken ring budget used y written h ring_is holds =
-      units_taken tape n y.state.write written ring (ring_is ∙ h.here.size_is) budget used (machine_in y) h.at h.here
-      (holds_at y written h ring holds)
-
   -- some units more
-  module _ {ring : List ℕ} {budget : ℕ} (y : Configuration) (written : ℕ) (h : Followed y written) (d : Done)
-      (t : Taken tape n y.state.write written ring budget y.sum (reading (machine_in y) h.at) d) where
+  module _ (y : Configuration) (written : ℕ) (h : Followed y written) (d : Done)
+      (t : Taken tape n y.state.write written y.sum (reading (machine_in y) h.at) d) where
     taken_each : (k : ℕ) (b : Bool) → ltb k y.sum ≡ b → k < y.sum + t.count → Further tape written (tape_units tape k first)
     taken_each k true e l = h.each k (ltb-true _ _ e)
     taken_each k false e l =
@@ -509,14 +476,16 @@ module _ (tape : ℕ → ℕ) (n : ℕ) (first : Reading) where
   not_counted written ring asking y n = refl
   not_counted written ring restarting y n = refl
 
-  pub followed_call : (ring : List ℕ) (y : Configuration) (written : ℕ) {call : Call} {z : Configuration} → Did ring y call z
+  followed_call : (ring : List ℕ) (y : Configuration) (written : ℕ) {call : Call} {z : Configuration} → Did ring y call z
       → Followed y written → Hosted tape written ring call y → Followed z (written_next written call y)
   followed_call ring y written (Did.refuses {call} n) h hosted = subst (Followed y) (sym (not_counted written ring call y n)) h
   followed_call ring y written Did.asks h hosted = h
   followed_call ring y written (Did.publishes {p} a l r) h hosted =
       subst (Followed _) (sym (counted written p y a)) (followed_publish y written p h l r)
   followed_call ring y written (Did.runs {budget} a f) h hosted =
-      followed_taken y written h _ (run_taken ring budget y.sum y written h f.ring_is (hosted a))
+      followed_taken y written h _
+      (units_taken tape n y.state.write written ring (f.ring_is ∙ h.here.size_is) budget y.sum (machine_in y) h.at h.here
+      (holds_at y written h ring (hosted a)))
   followed_call ring y written (Did.restarts a n) h hosted = absurd (hosted a)
 
   followed_calls : (calls : List Lent) (y : Configuration) (written : ℕ) → Followed y written → AllHosted tape written calls y
@@ -535,7 +504,7 @@ module _ (tape : ℕ → ℕ) (s : State) (frame : List ℕ) (fit : unfit s ≡ 
   abbrev first : Reading
   first = first_reading s frame
 
-  pub followed_start : Followed tape n first (start s frame) (written_first s)
+  followed_start : Followed tape n first (start s frame) (written_first s)
   followed_start =
       let f = fit_parts s fit in
       record {
@@ -633,9 +602,10 @@ module _ (tape : ℕ → ℕ) (s : State) (frame : List ℕ) (fit : unfit s ≡ 
     abbrev d : Done
     d = units ring y.state.write (total enough_runs) y.sum (machine_in y)
 
-    abbrev taken :
-        Taken tape s.core.ringlength y.state.write written ring (total enough_runs) y.sum (reading (machine_in y) h.at) d
-    taken = run_taken tape s.core.ringlength x ring (total enough_runs) y.sum y written h lasts.ring_is holds
+    abbrev taken : Taken tape s.core.ringlength y.state.write written y.sum (reading (machine_in y) h.at) d
+    taken =
+        units_taken tape s.core.ringlength y.state.write written ring ring_is (total enough_runs) y.sum
+        (machine_in y) h.at h.here (holds_at tape s.core.ringlength x y written h ring holds)
 
     more : runs ring enough_runs y ≡ configuration y.state.write d
     more = runs_total ring enough_runs y (fixed_wellformed ring y lasts)

@@ -13,7 +13,7 @@ use Rattle.model.specs.Command.{data_length, bad_return, bad_data_count, whole_w
 use Rattle.model.specs.Host.{host_word}
 use Rattle.model.specs.Judging.{row27, row28}
 use Rattle.model.specs.Unit.{command_rules, command_refusal}
-use Rattle.model.specs.Calls.{setup_rules, publish_rules, run_rules, restart_rules, room_rules, accepted, refused, answered, setup, publish, restart, ask_room, run_refusal, run_units, run_bytes, ran_answer, run, number_of}
+use Rattle.model.specs.Calls.{setup_rules, publish_rules, run_rules, restart_rules, room_rules, accepted, refused, answered, setup, publish, restart, ask_room, run_refusal, run_units, ran_answer, run, number_of}
 use Rattle.model.specs.Course.{Call, publishing, running, asking, restarting, Configuration}
 use Rattle.model.specs.Perform.{answer_of}
 use Rattle.model.specs.declared.Core.{Core}
@@ -112,8 +112,7 @@ pub call_first : (ring : List ℕ) (call : Call) (y : Configuration)
 unfolding publish ask_room restart run run_refusal ran_answer
 call_first ring (publishing p) y = answered_number _ _ _
 call_first ring (running budget) y =
-    number_is _ (ran_answer ring y.state (run_units ring y.state y.frame budget) (run_bytes ring y.state y.frame budget))
-    (refused y.state _) refl refl
+    number_is _ (ran_answer ring y.state (run_units ring y.state y.frame budget)) (refused y.state _) refl refl
 call_first ring asking y = answered_number _ _ _
 call_first ring restarting y = answered_number _ _ _
 

@@ -7,9 +7,8 @@ use borrow.Author.Tests.{eq-eqb, ne_eqb}
 use Rattle.model.specs.Refusals.{first}
 use Rattle.model.specs.Ring.{room}
 use Rattle.model.specs.Steps.{machine}
-use Rattle.model.specs.Calls.{run_rules, refused, run_refusal, run_units, run_bytes, run_word, ran_answer, run, run_frame, machine_of}
+use Rattle.model.specs.Calls.{run_rules, refused, run_refusal, run_units, run_word, ran_answer, run, run_frame, machine_of}
 use Rattle.model.specs.declared.Core.{Core}
-use Rattle.model.specs.declared.Covered.{Covered}
 use Rattle.model.specs.declared.State.{State}
 use Rattle.model.specs.declared.Reply.TheVariants.{Ran}
 use Rattle.laws.specs.WellFormed.{WellFormed, wellformed_run}
@@ -28,10 +27,10 @@ module _ (ring : List ℕ) (s : State) (frame : List ℕ) (budget : ℕ) {n : �
     pub run_wellformed : WellFormed ring s.write (machine_of s frame)
     run_wellformed = wellformed_run ring s frame (refusal ∙ accepted)
 
-    pub run_finished : {d : Core} {table after : List ℕ} {used : ℕ} {covered : Covered}
-        → Finished ring s.write (machine_of s frame) (machine d table after) budget used covered
-        → (record { state = record { core = d; table = table; write = s.write }; reply = Ran (word_of ring d s.write) used (room d.ringlength d.read s.write); covered = covered }
+    pub run_finished : {d : Core} {table after : List ℕ} {used : ℕ}
+        → Finished ring s.write (machine_of s frame) (machine d table after) budget used
+        → (record { state = record { core = d; table = table; write = s.write }; reply = Ran (word_of ring d s.write) used (room d.ringlength d.read s.write) }
         ≡ run ring s frame budget)
         × (after ≡ run_frame ring s frame budget)
-    unfolding run run_frame ran_answer run_units run_bytes run_word
-    run_finished f = rw (eq-eqb _ _ (refusal ∙ accepted), f.same, f.bytes) (refl, refl)
+    unfolding run run_frame ran_answer run_units run_word
+    run_finished f = rw (eq-eqb _ _ (refusal ∙ accepted), f.same) (refl, refl)

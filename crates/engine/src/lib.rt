@@ -6,7 +6,7 @@ ghost use Rattle.model.specs.Refusals.{first};
 ghost use Rattle.model.specs.Calls.{publish_rules, run_rules, restart_rules, room_rules, fresh_state, accepted, refused, setup, publish, restart, ask_room, run, run_frame};
 ghost use Rattle.engine.specs.Answers.{InRing};
 
-use model::{Answer, Core, Covered, Place, REGISTERS, Reply, State, TABLE};
+use model::{Answer, Core, Place, REGISTERS, Reply, State, TABLE};
 
 // ---- answers
 
@@ -21,13 +21,11 @@ fn answer(no: u32, kept: State, moved: State) -> Answer
         return Answer {
             state: moved,
             reply: Reply::Accepted { room: left },
-            covered: Covered::None,
         };
     }
     Answer {
         state: kept,
         reply: Reply::Refused(no),
-        covered: Covered::None,
     }
 }
 
@@ -86,13 +84,11 @@ pub fn publish(s: State, p: usize) -> Answer
         return Answer {
             state: moved,
             reply: Reply::Accepted { room: left },
-            covered: Covered::None,
         };
     }
     Answer {
         state: s,
         reply: Reply::Refused(no),
-        covered: Covered::None,
     }
 }
 
@@ -169,8 +165,8 @@ fn run_number(s: State, ringlength: usize, framelength: usize) -> u32
     0
 }
 
-// Does units, as many as the budget has, and reports how many they were, why it ends, and which bytes the drawing commands cover that it
-// accepted. The lookup table is copied out of the state and lent to the units, and put into the state that is handed back.
+// Does units, as many as the budget has, and reports how many they were and why it ends. The lookup table is copied out of the
+// state and lent to the units, and put into the state that is handed back.
 pub fn run(ring: &[u32], s: State, frame: &mut [u8], budget: u32) -> Answer
     ensures { (result ≡ run ring.now s frame.old budget) × (frame.new ≡ run_frame ring.now s frame.old budget) }
 {
@@ -181,7 +177,6 @@ pub fn run(ring: &[u32], s: State, frame: &mut [u8], budget: u32) -> Answer
         let mut table = s.table;
         let t = units::do_units(c, write, ring, &mut table, frame, budget);
         let after = t.core;
-        let covered = t.covered;
         let word = units::word_of(after, write, ring);
         let left = ring::room_left(after.ringlength, after.read, write);
         return Answer {
@@ -195,12 +190,10 @@ pub fn run(ring: &[u32], s: State, frame: &mut [u8], budget: u32) -> Answer
                 units: t.used,
                 room: left,
             },
-            covered,
         };
     }
     Answer {
         state: s,
         reply: Reply::Refused(no),
-        covered: Covered::None,
     }
 }

@@ -1,4 +1,4 @@
-// Refusals 23 to 28 of what a command draws, on the registers as they would be after loading, and the bytes that it covers.
+// Refusals 23 to 28 of what a command draws, on the registers as they would be after loading.
 ghost use Rattle.std.specs.Prelude.{◌≡◌, ◌&&◌};
 ghost use Rattle.model.specs.BltPixel.{source_outside};
 ghost use Rattle.model.specs.Judging.{refused_format, row23, channel3_further, row24_channel3, source_bits, mono_back, row24_source, row24, row25, judge};
@@ -7,15 +7,12 @@ ghost use Rattle.model.specs.Registers.{pattern_inversion, source_mode};
 ghost use Rattle.model.specs.Host.{straddles};
 ghost use Rattle.laws.specs.Straddling.{straddling};
 ghost use Rattle.model.specs.declared.Primitive.TheVariants.{Blt as BltPrimitive, Vector as VectorPrimitive};
-ghost use Rattle.model.specs.Refusals.{first};
-ghost use Rattle.model.specs.VectorPixel.{vector_of};
 ghost use Rattle.laws.specs.Ranges.{RangedSource};
 ghost use Rattle.laws.specs.Some.{is_outside};
-ghost use Rattle.judging.specs.Answers.{refused_by, accepted_over, judged, vector_rules};
 
 use model::{
-    BLT_MODE, CH3_MODE_STR, Covered, Extent, Format, Primitive, RASTER_MODE, REGISTERS, SRC_OFFSET,
-    Source, Vector, WID_HEIGHT,
+    BLT_MODE, CH3_MODE_STR, Extent, Format, Primitive, RASTER_MODE, REGISTERS, SRC_OFFSET, Source,
+    WID_HEIGHT,
 };
 
 // ---- 23
@@ -292,66 +289,38 @@ fn source_outside(framelength: usize, source: Source) -> bool
 
 // ---- all of them
 
-// What judging gives: the number of the first of 23 to 28 that applies, or 0, and the bytes that the command covers, if it is accepted.
-#[derive(Drop)]
-pub struct Judged {
-    pub number: u32,
-    pub covered: Covered,
-}
-
-fn refused(number: u32) -> Judged
-    ensures { result ≡ refused_by number }
-{
-    Judged {
-        number,
-        covered: Covered::None,
-    }
-}
-
-fn accepted(low: usize, high: usize) -> Judged
-    ensures { result ≡ accepted_over low high }
-{
-    Judged {
-        number: 0,
-        covered: Covered::Range { low, high },
-    }
-}
-
-// What judges a BLT.
-fn judge_blt(registers: [u32; REGISTERS], framelength: usize) -> Judged
-    ensures { result ≡ judged BltPrimitive registers framelength }
+// The number that judges a BLT, or 0.
+fn judge_blt(registers: [u32; REGISTERS], framelength: usize) -> u32
+    ensures { result ≡ judge BltPrimitive registers framelength }
 {
     let format = bad_format(registers);
     if format {
-        return refused(23);
+        return 23;
     }
     let modes = bad_blt_modes(registers);
     if modes {
-        return refused(24);
+        return 24;
     }
     let empty = no_area(registers);
     if empty {
-        return refused(25);
+        return 25;
     }
     let destination = blt::destination_of(registers);
-    let to = rectangle::extent(framelength, destination);
-    match to {
-        Extent::Inside { low, high } => {
-            let source = blt::source_of(registers);
-            let from = source_outside(framelength, source);
-            if from {
-                return refused(28);
-            }
-            accepted(low, high)
-        }
-        Extent::Outside => refused(27),
+    let to = is_outside(rectangle::extent(framelength, destination));
+    if to {
+        return 27;
     }
+    let source = blt::source_of(registers);
+    let from = source_outside(framelength, source);
+    if from {
+        return 28;
+    }
+    0
 }
 
-// The number of the first of 23 to 26 that applies to a vector, or 0.
-fn vector_number(registers: [u32; REGISTERS], v: Vector) -> u32
-    requires { v ≡ vector_of registers }
-    ensures { result ≡ first (vector_rules registers) }
+// The number that judges a vector, or 0.
+fn judge_vector(registers: [u32; REGISTERS], framelength: usize) -> u32
+    ensures { result ≡ judge VectorPrimitive registers framelength }
 {
     let format = bad_format(registers);
     if format {
@@ -361,6 +330,7 @@ fn vector_number(registers: [u32; REGISTERS], v: Vector) -> u32
     if modes {
         return 24;
     }
+    let v = vector::vector_of(registers);
     let length = v.length;
     if length == 0 {
         return 25;
@@ -369,34 +339,6 @@ fn vector_number(registers: [u32; REGISTERS], v: Vector) -> u32
     if terms {
         return 26;
     }
-    0
-}
-
-// What judges a vector.
-fn judge_vector(registers: [u32; REGISTERS], framelength: usize) -> Judged
-    ensures { result ≡ judged VectorPrimitive registers framelength }
-{
-    let v = vector::vector_of(registers);
-    let no = vector_number(registers, v);
-    if no != 0 {
-        return refused(no);
-    }
-    let to = vector::extent(framelength, v);
-    match to {
-        Extent::Inside { low, high } => accepted(low, high),
-        Extent::Outside => refused(27),
-    }
-}
-
-// The number alone, for which fewer pixels are looked at.
-fn vector_refusal(registers: [u32; REGISTERS], framelength: usize) -> u32
-    ensures { result ≡ judge VectorPrimitive registers framelength }
-{
-    let v = vector::vector_of(registers);
-    let no = vector_number(registers, v);
-    if no != 0 {
-        return no;
-    }
     let to = vector::outside(framelength, v);
     if to {
         return 27;
@@ -404,25 +346,12 @@ fn vector_refusal(registers: [u32; REGISTERS], framelength: usize) -> u32
     0
 }
 
-// What judges a command that draws.
-pub fn judge(primitive: Primitive, registers: [u32; REGISTERS], framelength: usize) -> Judged
-    ensures { result ≡ judged primitive registers framelength }
-{
-    match primitive {
-        Primitive::Blt => judge_blt(registers, framelength),
-        Primitive::Vector => judge_vector(registers, framelength),
-    }
-}
-
 // The number of the first of 23 to 28 that applies, or 0.
 pub fn refusal(primitive: Primitive, registers: [u32; REGISTERS], framelength: usize) -> u32
     ensures { result ≡ judge primitive registers framelength }
 {
     match primitive {
-        Primitive::Blt => {
-            let b = judge_blt(registers, framelength);
-            b.number
-        }
-        Primitive::Vector => vector_refusal(registers, framelength),
+        Primitive::Blt => judge_blt(registers, framelength),
+        Primitive::Vector => judge_vector(registers, framelength),
     }
 }

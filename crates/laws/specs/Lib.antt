@@ -6,7 +6,6 @@ pub mod Patterns
 pub mod Some
 pub mod Straddling
 pub mod Units
-pub mod Covers
 pub mod Host
 pub mod Fit
 pub mod HostWords

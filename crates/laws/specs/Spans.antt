@@ -1,50 +1,31 @@
--- Several pixels of one command at once are as many units, and give no bytes of their own.
+-- Several pixels of one command at once are as many units.
 use Rattle.std.specs.Prelude.{ℕ, zero, suc, ◌+◌, ◌≤◌, ◌<◌, ◌≡◌, refl, true, List}
-use Rattle.std.proofs.Common.{sym, ap, subst, ◌∙◌, arith, add-one, suc-add, zero-add, add-zero}
+use Rattle.std.proofs.Common.{sym, ap, ◌∙◌, arith, add-one, suc-add, zero-add, add-zero}
 use borrow.Author.Tests.{lt-leb}
 use Rattle.model.specs.Host.{host_word, draw_host}
-use Rattle.model.specs.Unit.{Machine, drawing, pixel_count, draw_pixel, drawn_core, fed_word, fed_core, unit, units}
-use Rattle.model.specs.Covers.{cover, units_bytes}
+use Rattle.model.specs.Unit.{Machine, drawing, pixel_count, draw_pixel, drawn_core, fed_word, fed_core, unit, possible, units}
 use Rattle.model.specs.Steps.{machine}
 use Rattle.model.specs.declared.Core.{Core}
-use Rattle.model.specs.declared.Covered.{Covered}
 use Rattle.model.specs.declared.Feed.{Feed}
 use Rattle.model.specs.declared.Primitive.{Primitive}
 use Rattle.model.specs.declared.Primitive.TheVariants.{Blt}
 use Rattle.model.specs.declared.Place.TheVariants.{Drawing, Fed}
 use Rattle.laws.specs.Units.{unit_draws, unit_feeds, drawing_possible, units_step}
-use Rattle.laws.specs.Covers.{none_cover, pixel_none, bytes_step}
 use Rattle.laws.specs.Order.{in_order, pixels, order_zero, order_last}
 
--- n units of pixels come to another machine, whatever more units are done
-pub record Passes (ring : List ℕ) (w n : ℕ) (before after : Machine) : Type 0 where
-  pub same_units : (more used : ℕ) → units ring w (n + more) used before ≡ units ring w more (used + n) after
-  pub same_bytes : (more : ℕ) → units_bytes ring w (n + more) before ≡ units_bytes ring w more after
-
--- machines each of which is one pixel from the last
-abbrev Each : List ℕ → ℕ → ℕ → (ℕ → Machine) → Type 0
-Each ring w n at =
-    (j : ℕ) → j < n → ((at j).core.stop ≡ 0) × (drawing (at j).core.place ≡ true) × (unit ring (at j) ≡ at (j + 1))
-
-pixels_pass : (ring : List ℕ) (w n : ℕ) (at : ℕ → Machine) → Each ring w n at → Passes ring w n (at 0) (at n)
-pixels_pass ring w zero at h = record { same_units = λ more used. rw (zero-add, add-zero); same_bytes = λ more. rw zero-add }
-pixels_pass ring w (suc n) at h =
+-- machines each of which is one unit from the last
+pub units_along : (ring : List ℕ) (w n more used : ℕ) (at : ℕ → Machine)
+    → ((j : ℕ) → j < n → (possible ring (at j).core w ≡ true) × (unit ring (at j) ≡ at (j + 1)))
+    → units ring w (n + more) used (at 0) ≡ units ring w more (used + n) (at n)
+units_along ring w zero more used at h = rw (zero-add, add-zero)
+units_along ring w (suc n) more used at h =
     let s = h 0 (omega arith) in
-    let e = drawing_possible ring (at 0).core w s.0 s.1 in
-    let i = pixels_pass ring w n (λ j. at (j + 1)) (λ j l. h (j + 1) (omega arith)) in
-    record {
-      same_units = λ more used.
-          let z : 0 + 1 ≡ 1 = omega arith in
-          let u : used + 1 + n ≡ used + suc n = omega arith in
-          rw suc-add
-          (units_step ring w (n + more) used (at 0) e ∙ ap (units ring w (n + more) (used + 1)) s.2 ∙ i.same_units more (used + 1)
-          ∙ rw (u, add-one n));
-      same_bytes = λ more.
-          let z : 0 + 1 ≡ 1 = omega arith in
-          rw suc-add
-          (bytes_step ring w (n + more) (at 0) e ∙ ap (λ (x : Covered). cover x (units_bytes ring w (n + more) (unit ring (at 0)))) (pixel_none ring (at 0).core s.1)
-          ∙ none_cover _ ∙ ap (units_bytes ring w (n + more)) s.2 ∙ i.same_bytes more ∙ rw (add-one n));
-    }
+    let z : 0 + 1 ≡ 1 = omega arith in
+    let u : used + 1 + n ≡ used + suc n = omega arith in
+    let i = units_along ring w n more (used + 1) (λ j. at (j + 1)) (λ j l. h (j + 1) (omega arith)) in
+    rw suc-add
+    (units_step ring w (n + more) used (at 0) s.0 ∙ ap (units ring w (n + more) (used + 1)) s.1 ∙ i
+    ∙ rw (u, add-one n))
 
 -- ---- a BLT or a vector that is drawn by itself
 
@@ -73,12 +54,11 @@ drawn_keeps : (c : Core) (primitive : Primitive) (k : ℕ)
 unfolding drawn_core
 drawn_keeps c primitive k = (refl, refl)
 
-pub span_passes : (ring : List ℕ) (w n : ℕ) (m : Machine) (primitive : Primitive) (k : ℕ) → m.core.stop ≡ 0
+pub units_span : (ring : List ℕ) (w n more used : ℕ) (m : Machine) (primitive : Primitive) (k : ℕ) → m.core.stop ≡ 0
     → m.core.place ≡ Drawing primitive k → k + suc n ≤ pixel_count primitive m.core.registers
-    → Passes ring w (suc n) m (drawn_machine m primitive k (suc n))
-span_passes ring w n m primitive k z p h =
-    subst (λ (b : Machine). Passes ring w (suc n) b (drawn_machine m primitive k (suc n))) here
-    (pixels_pass ring w (suc n) (drawn_machine m primitive k) on)
+    → units ring w (suc n + more) used m ≡ units ring w more (used + suc n) (drawn_machine m primitive k (suc n))
+units_span ring w n more used m primitive k z p h =
+    ap (units ring w (suc n + more) used) (sym here) ∙ units_along ring w (suc n) more used (drawn_machine m primitive k) on
   where
     c : Core
     c = m.core
@@ -88,13 +68,14 @@ span_passes ring w n m primitive k z p h =
         let e : k + 0 ≡ k = omega arith in
         rw (e, drawn_here c primitive k (omega arith) p, order_zero (draw_pixel primitive c.registers m.table) k m.frame)
 
-    on : Each ring w (suc n) (drawn_machine m primitive k)
+    on : (j : ℕ) → j < suc n
+        → (possible ring (drawn_machine m primitive k j).core w ≡ true)
+        × (unit ring (drawn_machine m primitive k j) ≡ drawn_machine m primitive k (j + 1))
     on j l =
         let keeps = drawn_keeps c primitive (k + j) in
         let q = drawn_place c primitive (k + j) (omega arith) in
         let e : k + (j + 1) ≡ k + j + 1 = omega arith in (
-          keeps.0 ∙ z,
-          ap drawing q,
+          drawing_possible ring _ w (keeps.0 ∙ z) (ap drawing q),
           unit_draws ring _ primitive (k + j) q
               ∙ rw (again c primitive (k + j) (omega arith) (k + j + 1), keeps.1, e, add-one j, order_last (draw_pixel primitive c.registers m.table) k j m.frame),
         )
@@ -131,13 +112,12 @@ fed_keeps : (c : Core) (k : ℕ) (feed : Feed) → ((fed_core c k feed).stop ≡
 unfolding fed_core
 fed_keeps c k feed = (refl, refl)
 
-pub fed_passes : (ring : List ℕ) (w n : ℕ) (m : Machine) (k : ℕ) (feed : Feed) → m.core.stop ≡ 0
+pub units_fed : (ring : List ℕ) (w n more used : ℕ) (m : Machine) (k : ℕ) (feed : Feed) → m.core.stop ≡ 0
     → m.core.place ≡ Fed k feed → k + suc n ≤ pixel_count Blt m.core.registers
     → ((x : ℕ) → x < suc n → host_word m.core.registers (k + x) < feed.before + feed.count)
-    → Passes ring w (suc n) m (fed_machine ring m k feed (suc n))
-fed_passes ring w n m k feed z p h f =
-    subst (λ (b : Machine). Passes ring w (suc n) b (fed_machine ring m k feed (suc n))) here
-    (pixels_pass ring w (suc n) (fed_machine ring m k feed) on)
+    → units ring w (suc n + more) used m ≡ units ring w more (used + suc n) (fed_machine ring m k feed (suc n))
+units_fed ring w n more used m k feed z p h f =
+    ap (units ring w (suc n + more) used) (sym here) ∙ units_along ring w (suc n) more used (fed_machine ring m k feed) on
   where
     c : Core
     c = m.core
@@ -151,7 +131,9 @@ fed_passes ring w n m k feed z p h f =
         let g = rw e at (f 0 (omega arith)) in
         rw (e, fed_here c feed k (omega arith) g p, order_zero draw k m.frame)
 
-    on : Each ring w (suc n) (fed_machine ring m k feed)
+    on : (j : ℕ) → j < suc n
+        → (possible ring (fed_machine ring m k feed j).core w ≡ true)
+        × (unit ring (fed_machine ring m k feed j) ≡ fed_machine ring m k feed (j + 1))
     on j l =
         let keeps = fed_keeps c (k + j) feed in
         let t : k + j < pixel_count Blt c.registers = omega arith in
@@ -162,4 +144,4 @@ fed_passes ring w n m k feed z p h f =
         ∙ rw (fed_again c feed (k + j) t (f j l) (k + j + 1))
         (ap (machine (fed_core c (k + j + 1) feed) m.table)
         (fed_draw c feed (k + j) t (f j l) ring m.table (k + j) _ ∙ sym (order_last draw k j m.frame))) in
-        (keeps.0 ∙ z, ap drawing q, next ∙ rw (e, add-one j))
+        (drawing_possible ring _ w (keeps.0 ∙ z) (ap drawing q), next ∙ rw (e, add-one j))

@@ -1,10 +1,9 @@
 -- The walk along a vector: how far k steps lead.
-use Rattle.std.specs.Prelude.{ℕ, zero, suc, ◌+◌, ◌*◌, ◌^◌, ◌≤◌, ◌<◌, ◌≡◌, refl, Bool, true, false, ◌||◌, ◌⊎◌, pos, ◌+ℤ◌}
-use Rattle.std.specs.Bool.{beq}
-use Rattle.std.proofs.Common.{inl, inr, arith, add-zero, zero-add, suc-add, add-one, leb-true}
+use Rattle.std.specs.Prelude.{ℕ, zero, suc, ◌+◌, ◌*◌, ◌^◌, ◌≤◌, ◌<◌, ◌≡◌, refl, Bool, true, false, pos}
+use Rattle.std.proofs.Common.{arith, add-zero, zero-add, suc-add, add-one}
 use Rattle.std.specs.Int.Signed.{lt_z}
-use Rattle.model.specs.Choice.{◌≤?◌, if◌then◌else◌, not_both, either}
-use Rattle.model.specs.VectorPixel.{major_step, minor_step, moved, with_error, axial_step, diagonal_step, step, position}
+use Rattle.model.specs.Choice.{if◌then◌else◌}
+use Rattle.model.specs.VectorPixel.{major_step, minor_step, moved, axial_step, diagonal_step, step, position}
 use Rattle.model.specs.declared.Vector.{Vector}
 use Rattle.model.specs.declared.Position.{Position}
 use Rattle.laws.specs.Pixels.{depth_most}
@@ -84,53 +83,3 @@ position_on v r k i e = rw e at (go i)
 pub position_near : (v : Vector) (k : ℕ) {s : Position} → RangedVector v → k ≤ v.length → s ≡ position v k → Near s
 unfolding position
 position_near v k r l e = rw e (omega (arith, r.long_most, position_on v r 0 k (add-zero k)))
-
--- ---- steps that all lead the same way
-
--- the two signs are the same, or one step along the major axis makes up for one along the minor
-abbrev pub one_way : Vector → Bool
-one_way v = beq v.majorpositive v.minorpositive || minor_step v ≤? major_step v
-
--- t lies no lower than s, or no higher
-abbrev pub Leads : Bool → Position → Position → Type 0
-Leads true s t = s.plus + t.minus ≤ t.plus + s.minus
-Leads false s t = t.plus + s.minus ≤ s.plus + t.minus
-
-leads_same : (up : Bool) (s : Position) → Leads up s s
-leads_same true s = omega arith
-leads_same false s = omega arith
-
-leads_on : (up : Bool) (s t u : Position) → Leads up s t → Leads up t u → Leads up s u
-leads_on true s t u p q = omega arith
-leads_on false s t u p q = omega arith
-
--- then the major sign says which
-step_leads : (v : Vector) → one_way v ≡ true → (s : Position) → Leads v.majorpositive s (step v s)
-unfolding step axial_step diagonal_step
-step_leads v e s = go v.majorpositive v.minorpositive (either (beq v.majorpositive v.minorpositive) _ e)
-  where
-    go : (major minor : Bool) → (beq major minor ≡ true) ⊎ (minor_step v ≤? major_step v ≡ true)
-        → Leads major s
-        (if lt_z s.error (pos 0) then with_error (moved major (major_step v) s) (s.error +ℤ v.axial)
-        else with_error (moved minor (minor_step v) (moved major (major_step v) s)) (s.error +ℤ v.diagonal))
-    go true true h = choice_both (Leads true s) (lt_z s.error (pos 0)) (omega arith) (omega arith)
-    go false false h = choice_both (Leads false s) (lt_z s.error (pos 0)) (omega arith) (omega arith)
-    go true false (inl h) = absurd (not_both false h refl)
-    go true false (inr h) =
-        let l = leb-true (minor_step v) (major_step v) h in
-        choice_both (Leads true s) (lt_z s.error (pos 0)) (omega arith) (omega arith)
-    go false true (inl h) = absurd (not_both false h refl)
-    go false true (inr h) =
-        let l = leb-true (minor_step v) (major_step v) h in
-        choice_both (Leads false s) (lt_z s.error (pos 0)) (omega arith) (omega arith)
-
-pub position_leads : (v : Vector) → one_way v ≡ true → (k i : ℕ) {j : ℕ} → i + k ≡ j → Leads v.majorpositive (position v k) (position v j)
-unfolding position
-position_leads v w k i e = rw e at (go i)
-  where
-    go : (i : ℕ) → Leads v.majorpositive (position v k) (position v (i + k))
-    go zero = rw zero-add (leads_same v.majorpositive (position v k))
-    go (suc i) =
-        rw suc-add
-        (leads_on v.majorpositive (position v k) (position v (i + k)) (step v (position v (i + k))) (go i)
-        (step_leads v w (position v (i + k))))

@@ -10,7 +10,6 @@ use Rattle.model.specs.Command.{data_length, bad_return, bad_data_count, whole_w
 use Rattle.model.specs.Host.{from_host, host_word, first_of_word, takes_data}
 use Rattle.model.specs.Judging.{judge}
 use Rattle.model.specs.Unit.{Machine, Done, pixel_count, possible, units}
-use Rattle.model.specs.Covers.{units_bytes}
 use Rattle.model.specs.declared.Core.{Core}
 use Rattle.model.specs.declared.State.{State}
 use Rattle.model.specs.declared.Feed.{Feed}
@@ -23,8 +22,6 @@ use Rattle.model.specs.declared.RunWord.TheVariants.{Stopped, Waiting, Spent}
 use Rattle.model.specs.declared.Reply.{Reply}
 use Rattle.model.specs.declared.Reply.TheVariants.{Refused, Accepted, Ran}
 use Rattle.model.specs.declared.Answer.{Answer}
-use Rattle.model.specs.declared.Covered.{Covered}
-use Rattle.model.specs.declared.Covered.TheVariants.{None}
 
 -- ---- what a reply says, as document 01 words it
 
@@ -131,12 +128,11 @@ room_rules s = 3 when unfit s ∷ []
 abbrev pub room_after : State → ℕ
 room_after s = room s.core.ringlength s.core.read s.write
 
--- W7: "without one, any command or call gives none": every call but a run, and a refused one
 abbrev pub accepted : State → Answer
-accepted s = record { state = s; reply = Accepted (room_after s); covered = None }
+accepted s = record { state = s; reply = Accepted (room_after s) }
 
 abbrev pub refused : State → ℕ → Answer
-refused s number = record { state = s; reply = Refused number; covered = None }
+refused s number = record { state = s; reply = Refused number }
 
 -- refused by the first rule that applies, with the state `kept`, or else accepted with the state `moved`
 abbrev pub answered : List Rule → State → State → Answer
@@ -211,23 +207,18 @@ machine_of s frame = record { core = s.core; table = s.table; frame = frame }
 unfoldable pub run_units : List ℕ → State → List ℕ → ℕ → Done
 run_units ring s frame budget = units ring s.write budget 0 (machine_of s frame)
 
--- W7: "the lowest and highest over all drawing commands it accepted"
-unfoldable pub run_bytes : List ℕ → State → List ℕ → ℕ → Covered
-run_bytes ring s frame budget = units_bytes ring s.write budget (machine_of s frame)
-
 abbrev pub state_after : State → Done → State
 state_after s done = record { core = done.machine.core; table = done.machine.table; write = s.write }
 
-unfoldable pub ran_answer : List ℕ → State → Done → Covered → Answer
-ran_answer ring s done covered = record {
+unfoldable pub ran_answer : List ℕ → State → Done → Answer
+ran_answer ring s done = record {
   state = state_after s done;
   reply = Ran (run_word ring (state_after s done)) done.used (room_after (state_after s done));
-  covered = covered;
 }
 
 unfoldable pub run : List ℕ → State → List ℕ → ℕ → Answer
 run ring s frame budget =
-    if run_refusal ring s frame =? 0 then ran_answer ring s (run_units ring s frame budget) (run_bytes ring s frame budget)
+    if run_refusal ring s frame =? 0 then ran_answer ring s (run_units ring s frame budget)
     else refused s (run_refusal ring s frame)
 
 unfoldable pub run_frame : List ℕ → State → List ℕ → ℕ → List ℕ

@@ -3,8 +3,6 @@ use Rattle.std.specs.Prelude.{ℕ, zero, suc, ◌+◌, ◌-◌, ◌%◌, List, [
 use Rattle.model.specs.Registers.{register_count, RASTER_MODE, DST_OFFSET, SRC_OFFSET, STRIDE, WID_HEIGHT, BLT_MODE, VEC_LEN}
 use Rattle.model.specs.declared.State.{State}
 use Rattle.model.specs.declared.Answer.{Answer}
-use Rattle.model.specs.declared.Covered.{Covered}
-use Rattle.model.specs.declared.Covered.TheVariants.{None}
 use Rattle.model.specs.declared.Place.{Place}
 use Rattle.model.specs.declared.Reply.{Reply}
 
@@ -51,12 +49,8 @@ engine_at = engine_with no_table
 abbrev pub engine : List ℕ → (framelength read write : ℕ) → Place → State
 engine registers framelength read write place = engine_at registers framelength read write 0 0 place
 
--- an answer, and one of a call that accepted no drawing command
-abbrev pub answer_over : State → Reply → Covered → Answer
-answer_over s reply covered = record { state = s; reply = reply; covered = covered }
-
 abbrev pub answer : State → Reply → Answer
-answer s reply = answer_over s reply None
+answer s reply = record { state = s; reply = reply }
 
 -- one row of four pixels of one byte by code F0h, and a copy of one by CCh (BLT_MODE 1h, or 201h with X negative)
 abbrev pub row : List ℕ

@@ -21,16 +21,13 @@ use Rattle.model.specs.Command.{returns, kind_of, bad_header, command_length, dr
 use Rattle.model.specs.Judging.{judge}
 use Rattle.model.specs.Completion.{retired}
 use Rattle.model.specs.Unit.{header_refusal, command_refusal, needed, ready, stopped, loaded_core, table_after, pixel_count, draw_pixel, drawn_core, fed_word, fed_core, taken_core, command_unit, unit_at, unit, possible, units}
-use Rattle.model.specs.Covers.{destination_bytes, judged_bytes, cover, command_bytes, unit_bytes, units_bytes}
-use Rattle.model.specs.Calls.{number_of, units_of, unfit, fresh_state, setup, publish, restart, ask_room, run_word, run_refusal, run_units, run_bytes, ran_answer, run, run_frame}
-use Rattle.model.specs.CaseSetup.{◌but◌is◌, zeros, ring_of, no_table, engine_with, engine_at, engine, answer_over, answer, series, placed, tile_table, row, copy, line}
+use Rattle.model.specs.Calls.{number_of, units_of, unfit, fresh_state, setup, publish, restart, ask_room, run_word, run_refusal, run_units, ran_answer, run, run_frame}
+use Rattle.model.specs.CaseSetup.{◌but◌is◌, zeros, ring_of, no_table, engine_with, engine_at, engine, answer, series, placed, tile_table, row, copy, line}
 pub use Rattle.model.specs.CaseSetup.{size}
 use Rattle.model.specs.HostCases.{HostSources, HostJudged, DataCommands, DataRefused, HostPlaces}
 use Rattle.model.specs.BaseCases.{Bases}
-use Rattle.model.specs.CoverCases.{Covering}
 use Rattle.model.specs.declared.State.{State}
 use Rattle.model.specs.declared.Answer.{Answer}
-use Rattle.model.specs.declared.Covered.TheVariants.{None, Range}
 use Rattle.model.specs.declared.Extent.{Extent}
 use Rattle.model.specs.declared.Extent.TheVariants.{Inside, Outside}
 use Rattle.model.specs.declared.Primitive.TheVariants.{Blt, Vector}
@@ -671,9 +668,9 @@ pub record Vectors : Type 0 where
   -- from its words in the ring: thirteen registers, the others as they were; its pixels, 9 xor 10
   pub vector_words :
       run vector_ring vector_start (replicate 14 0) 99
-      ≡ answer_over
+      ≡ answer
       (engine_at (0x3C ∷ 5 ∷ 0x0004FFFA ∷ 6 ∷ 0x0005FFFF ∷ 9 ∷ 7 ∷ 10 ∷ 11 ∷ 12 ∷ 13 ∷ 7 ∷ 14 ∷ 7 ∷ 0 ∷ 7 ∷ 4 ∷ 7 ∷ []) 14 14 14 9 0 Idle)
-      (Ran Waiting 6 (size - 1)) (Range 4 13)
+      (Ran Waiting 6 (size - 1))
   pub vector_frame :
       run_frame vector_ring vector_start (replicate 14 0) 99
       ≡ 0 ∷ 0 ∷ 0 ∷ 0 ∷ 3 ∷ 3 ∷ 0 ∷ 0 ∷ 3 ∷ 3 ∷ 0 ∷ 0 ∷ 0 ∷ 3 ∷ []
@@ -695,7 +692,6 @@ pub record Further : Type 0 where
   pub data_refused : DataRefused
   pub host_places : HostPlaces
   pub bases : Bases
-  pub covering : Covering
 
 -- ---- a recording
 
@@ -716,25 +712,23 @@ shop_frame = replicate 10 0 ++ replicate 4 0x5A ++ replicate 12 0 ++ replicate 4
 pub record Recorded : Type 0 where
   pub shop_setup : (setup size 64).reply ≡ Accepted (size - 1)
   pub shop_publish : (publish (setup size 64).state 17).reply ≡ Accepted (size - 18)
-  -- retired=1 units=9 read=17 write=17 state=waiting refusal=0, and W7: "in document 01's example 10 and 29"
+  -- retired=1 units=9 read=17 write=17 state=waiting refusal=0
   pub shop_run_holds : (shop_run 100).reply ≡ Ran Waiting 9 (size - 1)
   pub shop_read : (shop_run 100).state.core.read ≡ 17
   pub shop_write : (shop_run 100).state.write ≡ 17
   pub shop_retired : (shop_run 100).state.core.completion ≡ 1
-  pub shop_covered : (shop_run 100).covered ≡ Range 10 29
   pub shop_frame_holds : run_frame shop_ring shop_start (replicate 64 0) 100 ≡ shop_frame
   -- a budget that is used up, exactly at the end and before it
   pub shop_budgets :
       map (λ b. (shop_run b).reply) (0 ∷ 1 ∷ 8 ∷ 9 ∷ [])
       ≡ Ran Spent 0 (size - 18) ∷ Ran Spent 1 (size - 1) ∷ Ran Spent 8 (size - 1) ∷ Ran Waiting 9 (size - 1) ∷ []
-  -- after the load no byte has changed yet, and the bytes are answered
+  -- after the load no byte has changed yet
   pub shop_load : run_frame shop_ring shop_start (replicate 64 0) 1 ≡ replicate 64 0
-  pub shop_load_covered : map (λ b. (shop_run b).covered) (0 ∷ 1 ∷ 8 ∷ []) ≡ None ∷ Range 10 29 ∷ Range 10 29 ∷ []
 
 -- ---- all of it
 
 pub cases : Cases × Further × Recorded
-unfolding first any pattern_bit pattern_byte pattern_index distance waiting room word_at bad_count next_index index_after data_stored tile_byte tile_value tile_color read_pixel store_pixel raster format_of byte_outside some outside least greatest extent pixel_byte rectangle_of bytes_of mono_source_of source_of pattern_of color_pattern_of blt_of source_bit expand source_value mono_bit with_pattern with_source operands_at draw_operands draw_at color_at blt_at draw_blt draw_tiled signed16 vector_of axial_step diagonal_step step position vector_byte draw_vector kind_of bad_header drawn_by bad_return whole_words read_after load_words loaded loaded_table judge host_of host_byte host_pixel host_word straddles host_value draw_from draw_host bad_data_word retired header_refusal command_refusal needed ready stopped loaded_core table_after pixel_count draw_pixel drawn_core fed_word fed_core taken_core command_unit unit_at unit possible units destination_bytes judged_bytes cover command_bytes unit_bytes units_bytes unfit setup publish restart ask_room run_word run_refusal run_units run_bytes ran_answer run run_frame
+unfolding first any pattern_bit pattern_byte pattern_index distance waiting room word_at bad_count next_index index_after data_stored tile_byte tile_value tile_color read_pixel store_pixel raster format_of byte_outside some outside least greatest extent pixel_byte rectangle_of bytes_of mono_source_of source_of pattern_of color_pattern_of blt_of source_bit expand source_value mono_bit with_pattern with_source operands_at draw_operands draw_at color_at blt_at draw_blt draw_tiled signed16 vector_of axial_step diagonal_step step position vector_byte draw_vector kind_of bad_header drawn_by bad_return whole_words read_after load_words loaded loaded_table judge host_of host_byte host_pixel host_word straddles host_value draw_from draw_host bad_data_word retired header_refusal command_refusal needed ready stopped loaded_core table_after pixel_count draw_pixel drawn_core fed_word fed_core taken_core command_unit unit_at unit possible units unfit setup publish restart ask_room run_word run_refusal run_units ran_answer run run_frame
 cases = (
   record {
     code_5_a = λ s. raster_pattern_xor 8 0xFF s 0xF0;
@@ -775,7 +769,6 @@ cases = (
     data_refused = record { others_refused = refl; whole_others = refl; data_first = refl; data_first_counts = refl; data_after = refl; headers_first = refl; counts_wait = refl; counts_refused = refl; count_most_holds = refl; count_larger = refl; returns_wait = refl; returns_refused = refl; abandoned = refl; abandoned_seen = refl; restarted = refl };
     host_places = record { wanting = refl; wanting_mono = refl; fed_before = refl; fed_after = refl; fed_none = refl; fed_last = refl; fed_count = refl; fed_return = refl; fed_waiting = refl; fed_calls = refl; selected = refl; vector_drawn = refl; host_stopped = refl; host_judged = refl };
     bases = record { two_screens = λ frame. refl; two_retired = λ frame. refl; own_channels = refl; last_byte = refl; base_1023 = refl; no_region = refl; below_base = refl; source_in = refl; bits_in = refl; line_in_holds = refl; bases_judged = refl; host_stays = refl; base_in_progress = refl; counts_of_rings = refl; saved_counts = refl };
-    covering = record { directions_16 = refl; directions_32 = refl; inner_extremes = refl; inner_32 = refl; one_sign = refl; no_stride = refl; just_inside = refl; bases_in = refl; transparent_ends = refl; transparent_bytes = refl; both_ways = refl; second_refused = refl; second_judged = refl; goes_on = refl; goes_on_frame = refl; only_load = refl; data_alone = refl; abandoned = refl; load_only = refl; refused_run = refl };
   },
-  record { shop_setup = refl; shop_publish = refl; shop_run_holds = refl; shop_read = refl; shop_write = refl; shop_retired = refl; shop_covered = refl; shop_frame_holds = refl; shop_budgets = refl; shop_load = refl; shop_load_covered = refl },
+  record { shop_setup = refl; shop_publish = refl; shop_run_holds = refl; shop_read = refl; shop_write = refl; shop_retired = refl; shop_frame_holds = refl; shop_budgets = refl; shop_load = refl },
 )

@@ -20,7 +20,6 @@ pub mod VectorPixel
 pub mod Command
 pub mod Judging
 pub mod Unit
-pub mod Covers
 pub mod Calls
 pub mod Course
 pub mod Perform
@@ -28,5 +27,4 @@ pub mod Steps
 pub mod CaseSetup
 pub mod HostCases
 pub mod BaseCases
-pub mod CoverCases
 pub mod Cases

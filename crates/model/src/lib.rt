@@ -167,19 +167,11 @@ pub enum Reply {
     },
 }
 
-// Which bytes of frame memory drawing commands cover: none, or from the lowest to the highest byte of their pixels.
-#[derive(Drop)]
-pub enum Covered {
-    None,
-    Range { low: usize, high: usize },
-}
-
-// A call's answer with the state that it hands back, and the bytes that the drawing commands cover which it accepted.
+// A call's answer with the state that it hands back.
 #[derive(Drop)]
 pub struct Answer {
     pub state: State,
     pub reply: Reply,
-    pub covered: Covered,
 }
 
 // ---- what is drawn

@@ -1,4 +1,4 @@
-// Replays a recording: the file that the first argument names, or standard input without one. Eight lines say how it ended,
+// Replays a recording: the file that the first argument names, or standard input without one. Six lines say how it ended,
 // or the one line recording=bad.
 fn main() {
     let fd = files::open();

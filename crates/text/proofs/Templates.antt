@@ -16,14 +16,11 @@ use Rattle.model.specs.declared.RunWord.TheVariants.{Stopped, Waiting, Spent}
 use Rattle.model.specs.declared.Reply.{Reply}
 use Rattle.model.specs.declared.Reply.TheVariants.{Refused, Accepted, Ran}
 use Rattle.model.specs.declared.Answer.{Answer}
-use Rattle.model.specs.declared.Covered.{Covered}
-use Rattle.model.specs.declared.Covered.TheVariants.{None, Range}
 use Rattle.text.specs.Ascii.{ascii}
 use Rattle.text.specs.Numerals.{decimal}
 use Rattle.text.specs.Template.{takes, pass, left_after, piece, filled}
-use Rattle.text.specs.Lines.{fields, lines, state_name, low_name, high_name, call_name, answer_name, place_name, kind_of, parts_of, span_of, drawn_of, replay_lines, call_line}
+use Rattle.text.specs.Lines.{fields, call_name, answer_name, place_name, kind_of, parts_of, drawn_of, replay_lines, call_line}
 use Rattle.text.specs.declared.Parts.{Parts}
-use Rattle.text.specs.declared.Span.{Span}
 use Rattle.text.specs.declared.Drawn.{Drawn}
 
 -- one byte more
@@ -47,39 +44,19 @@ piece_none (suc left) byte value some = refl
 
 -- ---- the lines of an answer, from the parts that the code finds in it
 
--- a replay's lines, up to the refusal's and from there on
-module _ (rest values : List ℕ) where
-  ended : (reply : Reply) (a b c d e : ℕ)
-      → filled 0 (ascii "retired=#\nunits=#\nread=#\nwrite=#\nstate={waiting|refused|stopped|waiting|spent}\nrefusal=#\n" ++ rest)
-      (a ∷ b ∷ c ∷ d ∷ kind_of reply ∷ e ∷ values)
-      ≡ fields "\n" (
-      ("retired", decimal a) ∷ ("units", decimal b) ∷ ("read", decimal c) ∷ ("write", decimal d) ∷ ("state", state_name reply)
-      ∷ ("refusal", decimal e) ∷ []
-      ) (filled 0 rest values)
-  unfolding filled
-  ended (Refused number) a b c d e = refl
-  ended (Accepted room) a b c d e = refl
-  ended (Ran Stopped units room) a b c d e = refl
-  ended (Ran Waiting units room) a b c d e = refl
-  ended (Ran Spent units room) a b c d e = refl
+abbrev pub replay_filled : State → Parts → List ℕ
+replay_filled s parts =
+    filled 0 (ascii "retired=#\nunits=#\nread=#\nwrite=#\nstate={waiting|refused|stopped|waiting|spent}\nrefusal=#\n")
+    (s.core.completion ∷ parts.units ∷ s.core.read ∷ s.write ∷ parts.kind ∷ parts.last ∷ [])
 
-bytes : (covered : Covered) → let span = span_of covered in
-    filled 0 (ascii "low={none|#}\nhigh={none|#}\n") (span.some ∷ span.low ∷ span.some ∷ span.high ∷ [])
-    ≡ lines (("low", low_name covered) ∷ ("high", high_name covered) ∷ [])
-unfolding filled
-bytes None = refl
-bytes (Range low high) = refl
-
-abbrev pub replay_filled : State → Parts → Span → List ℕ
-replay_filled s parts span =
-    filled 0 (ascii "retired=#\nunits=#\nread=#\nwrite=#\nstate={waiting|refused|stopped|waiting|spent}\nrefusal=#\nlow={none|#}\nhigh={none|#}\n")
-    (s.core.completion ∷ parts.units ∷ s.core.read ∷ s.write ∷ parts.kind ∷ parts.last ∷ span.some ∷ span.low
-    ∷ span.some ∷ span.high ∷ [])
-
-pub replay_is : (a : Answer) (parts : Parts) (span : Span) → parts ≡ parts_of a → span ≡ span_of a.covered
-    → replay_filled a.state parts span ≡ replay_lines a
-unfolding replay_lines
-replay_is a parts span parts_are span-is = rw (parts_are, span-is, ended, bytes)
+pub replay_is : (s : State) (reply : Reply)
+    → let a : Answer = record { state = s; reply = reply } in replay_filled s (parts_of a) ≡ replay_lines a
+unfolding filled replay_lines
+replay_is s (Refused number) = refl
+replay_is s (Accepted room) = refl
+replay_is s (Ran Stopped units room) = refl
+replay_is s (Ran Waiting units room) = refl
+replay_is s (Ran Spent units room) = refl
 
 -- the line of a call, a part with a choice at a time
 module _ (rest values : List ℕ) where

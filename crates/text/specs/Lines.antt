@@ -10,12 +10,9 @@ use Rattle.model.specs.declared.RunWord.TheVariants.{Stopped, Waiting, Spent}
 use Rattle.model.specs.declared.Reply.{Reply}
 use Rattle.model.specs.declared.Reply.TheVariants.{Refused, Accepted, Ran}
 use Rattle.model.specs.declared.Answer.{Answer}
-use Rattle.model.specs.declared.Covered.{Covered}
-use Rattle.model.specs.declared.Covered.TheVariants.{None, Range}
 use Rattle.text.specs.Ascii.{ascii}
 use Rattle.text.specs.Numerals.{decimal, hexadecimal}
 use Rattle.text.specs.declared.Parts.{Parts}
-use Rattle.text.specs.declared.Span.{Span}
 use Rattle.text.specs.declared.Drawn.{Drawn}
 
 -- ---- the replay's lines
@@ -49,15 +46,6 @@ last_number (Refused number) stop = number
 last_number (Accepted room) stop = 0
 last_number (Ran word units room) stop = stop
 
--- W7: "The replay ends with lines low= and high= (or none)": the lowest byte that is covered, and the highest
-abbrev pub low_name : Covered → List ℕ
-low_name None = ascii "none"
-low_name (Range low high) = decimal low
-
-abbrev pub high_name : Covered → List ℕ
-high_name None = ascii "none"
-high_name (Range low high) = decimal high
-
 -- "It writes key=value lines in this order": of the answer of the last call
 unfoldable pub replay_lines : Answer → List ℕ
 replay_lines a = lines (
@@ -67,8 +55,6 @@ replay_lines a = lines (
     ∷ ("write", decimal a.state.write)
     ∷ ("state", state_name a.reply)
     ∷ ("refusal", decimal (last_number a.reply a.state.core.stop))
-    ∷ ("low", low_name a.covered)
-    ∷ ("high", high_name a.covered)
     ∷ []
     )
 
@@ -135,11 +121,6 @@ parts_of a = record {
   room = room_of a.reply;
   last = last_number a.reply a.state.core.stop;
 }
-
--- where no byte is covered, no byte lies from the lowest to the highest
-abbrev pub span_of : Covered → Span
-span_of None = record { some = 0; low = 1; high = 0 }
-span_of (Range low high) = record { some = 1; low = low; high = high }
 
 abbrev pub drawn_of : Place → Drawn
 drawn_of Idle = record { command = 0; pixels = 0 }

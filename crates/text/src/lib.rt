@@ -2,10 +2,10 @@
 ghost use Rattle.std.specs.Prelude.{◌≡◌, ◌+◌, ◌*◌, ◌≤◌, length, get_or};
 ghost use Rattle.text.specs.Numerals.{decimal, hexadecimal};
 ghost use Rattle.text.specs.Template.{takes, left_after, piece, filled};
-ghost use Rattle.text.specs.Lines.{run_kind, parts_of, span_of, drawn_of, replay_lines, bad_line, call_line, crc_line};
+ghost use Rattle.text.specs.Lines.{run_kind, parts_of, drawn_of, replay_lines, bad_line, call_line, crc_line};
 ghost use Rattle.text.specs.Buffers.{buffer_length, Put, Holds};
 
-use model::{Answer, Covered, Place, Primitive, Reply, RunWord};
+use model::{Answer, Place, Primitive, Reply, RunWord};
 
 // ---- pieces of text
 
@@ -179,27 +179,6 @@ pub fn parts_of(a: Answer) -> Parts
     }
 }
 
-// Which bytes are covered: whether some are, 0 or 1, and the lowest and the highest of them; of none 1 and 0.
-#[derive(Drop)]
-pub struct Span {
-    pub some: u64,
-    pub low: usize,
-    pub high: usize,
-}
-
-pub fn span_of(covered: Covered) -> Span
-    ensures { result ≡ span_of covered }
-{
-    match covered {
-        Covered::None => Span {
-            some: 0,
-            low: 1,
-            high: 0,
-        },
-        Covered::Range { low, high } => Span { some: 1, low, high },
-    }
-}
-
 // What is being drawn: 0 nothing, 1 a BLT, 2 a vector, and how many of its pixels are drawn.
 #[derive(Drop)]
 struct Drawn {
@@ -245,9 +224,7 @@ pub fn replay_lines(a: Answer, out: &mut [u8]) -> usize
 {
     let s = a.state;
     let c = s.core;
-    let covered = a.covered;
     let parts = parts_of(a);
-    let span = span_of(covered);
     let values = [
         c.completion as u64,
         parts.units as u64,
@@ -255,13 +232,9 @@ pub fn replay_lines(a: Answer, out: &mut [u8]) -> usize
         s.write as u64,
         parts.kind,
         parts.last as u64,
-        span.some,
-        span.low as u64,
-        span.some,
-        span.high as u64,
     ];
     fill(
-        b"retired=#\nunits=#\nread=#\nwrite=#\nstate={waiting|refused|stopped|waiting|spent}\nrefusal=#\nlow={none|#}\nhigh={none|#}\n",
+        b"retired=#\nunits=#\nread=#\nwrite=#\nstate={waiting|refused|stopped|waiting|spent}\nrefusal=#\n",
         &values,
         out,
     )

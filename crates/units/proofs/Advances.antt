@@ -4,11 +4,8 @@ use borrow.Author.Tests.{eqb-false}
 use Rattle.model.specs.Choice.{◌=?◌, not_both}
 use Rattle.model.specs.Host.{host_word}
 use Rattle.model.specs.Unit.{Machine, command_refusal, pixel_count, draw_pixel, drawn_core, unit, ready, drawing, possible, units, Done, done}
-use Rattle.model.specs.Covers.{cover, command_bytes, units_bytes}
 use Rattle.model.specs.Steps.{machine}
 use Rattle.model.specs.declared.Core.{Core}
-use Rattle.model.specs.declared.Covered.{Covered}
-use Rattle.model.specs.declared.Covered.TheVariants.{None}
 use Rattle.model.specs.declared.Feed.{Feed}
 use Rattle.model.specs.declared.Primitive.{Primitive}
 use Rattle.model.specs.declared.Primitive.TheVariants.{Blt}
@@ -17,8 +14,7 @@ use Rattle.laws.specs.Units.{unit_accepts, unit_refuses, idle_possible, units_ze
 use Rattle.laws.specs.Fit.{drawing_fit, fed_fit}
 use Rattle.laws.specs.WellFormed.{WellFormed, wellformed_unit, wellformed_units, length_pixel, length_host}
 use Rattle.laws.specs.Order.{pixels, order_length}
-use Rattle.laws.specs.Covers.{none_cover, cover_none, cover_assoc, command_gives, bytes_zero, bytes_stop, bytes_step}
-use Rattle.laws.specs.Spans.{Passes, drawn_machine, span_passes, fed_machine, fed_passes}
+use Rattle.laws.specs.Spans.{drawn_machine, units_span, fed_machine, units_fed}
 use Rattle.units.specs.Turns.{FitCore, load_unit, table_unit, command_turn, command_table, Painted, FedOn, hosts, Advanced, Going, Plain, Stepped, Finished}
 use Rattle.units.specs.declared.Turn.{Turn}
 
@@ -43,13 +39,13 @@ unit_idle ring m p = go (command_refusal ring m.core =? 0) refl
 
 module _ (ring : List ℕ) (w : ℕ) (m : Machine) (left : ℕ) {Sort : Type 0} where
   -- a stopped engine does nothing
-  pub stop_advances : (m.core.stop ≡ 0 → ⊥) → Advanced Sort ring w m m left 0 None
+  pub stop_advances : (m.core.stop ≡ 0 → ⊥) → Advanced Sort ring w m m left 0
   stop_advances z = Advanced.none refl (λ s. unfold possible in rw (ne_eqb _ _ z)) refl refl
 
   -- the turn of an engine that draws nothing
   pub command_advances : WellFormed ring w m → 0 < left → m.core.stop ≡ 0 → drawing m.core.place ≡ false → {t : Turn} {table : List ℕ}
       → t ≡ command_turn ring m.core w → table ≡ command_table ring m.core w m.table
-      → Advanced Sort ring w m (machine t.core table m.frame) left t.used t.covered
+      → Advanced Sort ring w m (machine t.core table m.frame) left t.used
   unfolding command_turn command_table
   command_advances h l z p {t} {table} e f = go (ready ring m.core w) refl
     where
@@ -59,74 +55,72 @@ module _ (ring : List ℕ) (w : ℕ) (m : Machine) (left : ℕ) {Sort : Type 0} 
       u : unit ring m ≡ machine (load_unit ring c) (table_unit ring c m.table) m.frame
       u = unit_idle ring m p
 
-      go : (b : Bool) → ready ring c w ≡ b → Advanced Sort ring w m (machine t.core table m.frame) left t.used t.covered
+      go : (b : Bool) → ready ring c w ≡ b → Advanced Sort ring w m (machine t.core table m.frame) left t.used
       go true r =
           let q : possible ring c w ≡ true = idle_possible ring c w z p ∙ r in
           let x : left ≡ suc (left - 1) = omega arith in
           rw (e, f, r)
           (Advanced.some (omega arith) l (rw u at (wellformed_unit ring w m h q)) refl
           (λ k.
-          ap (λ (y : ℕ). units ring w y k m) x ∙ units_step ring w (left - 1) k m q ∙ ap (units ring w (left - 1) (k + 1)) u)
-          (ap (λ (y : ℕ). units_bytes ring w y m) x ∙ bytes_step ring w (left - 1) m q
-          ∙ ap (λ (y : Covered). cover y (units_bytes ring w (left - 1) (unit ring m))) (command_gives ring c p)
-          ∙ ap (λ (n : Machine). cover (command_bytes ring c) (units_bytes ring w (left - 1) n)) u))
+          ap (λ (y : ℕ). units ring w y k m) x ∙ units_step ring w (left - 1) k m q ∙ ap (units ring w (left - 1) (k + 1)) u))
       go false r = rw (e, f, r) (Advanced.none refl (λ s. idle_possible ring c w z p ∙ r) refl refl)
 
-  -- n + 1 pixels that come to a machine
-  done_advances : WellFormed ring w m → (n : ℕ) (after : Machine) → suc n ≤ left → Passes ring w (suc n) m after
-      → length after.frame ≡ length m.frame → Advanced Sort ring w m after left (suc n) None
-  done_advances h n after l passes same =
-      let e : left ≡ suc n + (left - suc n) = omega arith in
+  -- n + 1 units that come to a machine
+  done_advances : WellFormed ring w m → (n : ℕ) (after : Machine) → suc n ≤ left
+      → ((more used : ℕ) → units ring w (suc n + more) used m ≡ units ring w more (used + suc n) after)
+      → length after.frame ≡ length m.frame → Advanced Sort ring w m after left (suc n)
+  done_advances h n after l steps same =
       let all : units ring w (suc n) 0 m ≡ done after (suc n) =
       ap (λ (x : ℕ). units ring w x 0 m) (sym (add-zero (suc n)))
-      ∙ passes.same_units 0 0
+      ∙ steps 0 0
       ∙ units_zero ring w (0 + suc n) after
       ∙ ap (done after) (omega arith) in
       Advanced.some (omega arith) l (rw all at (wellformed_units ring w (suc n) 0 m h)) same
-      (λ u. ap (λ (x : ℕ). units ring w x u m) e ∙ passes.same_units (left - suc n) u)
-      (ap (λ (x : ℕ). units_bytes ring w x m) e ∙ passes.same_bytes (left - suc n) ∙ sym (none_cover _))
+      (λ u.
+      let e : left ≡ suc n + (left - suc n) = omega arith in
+      ap (λ (x : ℕ). units ring w x u m) e ∙ steps (left - suc n) u)
 
   span_advances : WellFormed ring w m → (primitive : Primitive) (k n : ℕ) → m.core.place ≡ Drawing primitive k
-      → 0 < n → n ≤ left → k + n ≤ pixel_count primitive m.core.registers → Advanced Sort ring w m (drawn_machine m primitive k n) left n None
+      → 0 < n → n ≤ left → k + n ≤ pixel_count primitive m.core.registers → Advanced Sort ring w m (drawn_machine m primitive k n) left n
   span_advances h primitive k (suc n) p z l q =
       let running = (drawing_fit m.core w h.fit primitive k p).running in
-      done_advances h n (drawn_machine m primitive k (suc n)) l (span_passes ring w n m primitive k running p q)
+      done_advances h n (drawn_machine m primitive k (suc n)) l (λ more used. units_span ring w n more used m primitive k running p q)
       (order_length (draw_pixel primitive m.core.registers m.table) (length_pixel primitive m.core.registers m.table) (suc n) k m.frame)
 
   -- the same of pixels that a data command feeds
   fed_advances : WellFormed ring w m → (k : ℕ) (feed : Feed) (n : ℕ) → m.core.place ≡ Fed k feed
       → 0 < n → n ≤ left → k + n ≤ pixel_count Blt m.core.registers
       → ((x : ℕ) → x < n → host_word m.core.registers (k + x) < feed.before + feed.count)
-      → Advanced Sort ring w m (fed_machine ring m k feed n) left n None
+      → Advanced Sort ring w m (fed_machine ring m k feed n) left n
   fed_advances h k feed (suc n) p z l q f =
       let running = (fed_fit m.core w h.fit k feed p).pixel.running in
-      done_advances h n (fed_machine ring m k feed (suc n)) l (fed_passes ring w n m k feed running p q f)
+      done_advances h n (fed_machine ring m k feed (suc n)) l (λ more used. units_fed ring w n more used m k feed running p q f)
       (order_length _ (λ k. length_host _ _ k _) (suc n) k m.frame)
 
   pub fed_on_advances : WellFormed ring w m → {k : ℕ} {feed : Feed} → m.core.place ≡ Fed k feed
-      → {d : Core} {after : List ℕ} {used : ℕ} {covered : Covered} → FedOn ring m.core k feed m.table m.frame after left d used covered
-      → Advanced Sort ring w m (machine d m.table after) left used covered
+      → {d : Core} {after : List ℕ} {used : ℕ} → FedOn ring m.core k feed m.table m.frame after left d used
+      → Advanced Sort ring w m (machine d m.table after) left used
   fed_on_advances h p x =
-      rw (x.core_is, x.frame_is, x.gives_none) (fed_advances h _ _ _ p x.some x.most x.within x.feeding)
+      rw (x.core_is, x.frame_is) (fed_advances h _ _ _ p x.some x.most x.within x.feeding)
 
   pub painted_advances : WellFormed ring w m → {primitive : Primitive} {k : ℕ} → m.core.place ≡ Drawing primitive k
-      → {d : Core} {after : List ℕ} {used : ℕ} {covered : Covered} → Painted m.core primitive k m.table m.frame after left d used covered
-      → Advanced Sort ring w m (machine d m.table after) left used covered
-  painted_advances h p x = rw (x.core_is, x.frame_is, x.gives_none) (span_advances h _ _ _ p x.some x.most x.within)
+      → {d : Core} {after : List ℕ} {used : ℕ} → Painted m.core primitive k m.table m.frame after left d used
+      → Advanced Sort ring w m (machine d m.table after) left used
+  painted_advances h p x = rw (x.core_is, x.frame_is) (span_advances h _ _ _ p x.some x.most x.within)
 
-module _ {Sort : Type 0} {ring : List ℕ} {w : ℕ} {before after : Machine} {left used : ℕ} {covered : Covered} where
+module _ {Sort : Type 0} {ring : List ℕ} {w : ℕ} {before after : Machine} {left used : ℕ} where
   -- at most what was left is done
-  pub advanced_most : Advanced Sort ring w before after left used covered → used ≤ left
+  pub advanced_most : Advanced Sort ring w before after left used → used ≤ left
   advanced_most (Advanced.none e i t s) = omega arith
-  advanced_most (Advanced.some z l h k s b) = l
+  advanced_most (Advanced.some z l h k s) = l
 
-  pub advanced_length : Advanced Sort ring w before after left used covered → length after.frame ≡ length before.frame
+  pub advanced_length : Advanced Sort ring w before after left used → length after.frame ≡ length before.frame
   advanced_length (Advanced.none e i t s) = ap length s
-  advanced_length (Advanced.some z l h k s b) = k
+  advanced_length (Advanced.some z l h k s) = k
 
 -- an engine of another sort does nothing
 pub other_sort : (ring : List ℕ) (w : ℕ) (m : Machine) (left : ℕ) {b : Bool} → hosts m.core.place ≡ b
-    → Advanced (hosts m.core.place ≡ not b) ring w m m left 0 None
+    → Advanced (hosts m.core.place ≡ not b) ring w m m left 0
 other_sort ring w m left e = Advanced.none refl (λ s. absurd (differ _ (sym e ∙ s))) refl refl
   where
     differ : (b : Bool) → b ≡ not b → ⊥
@@ -136,16 +130,15 @@ other_sort ring w m left e = Advanced.none refl (λ s. absurd (differ _ (sym e �
 -- ---- budgets
 
 module _ {ring : List ℕ} {w : ℕ} {before : Machine} {budget : ℕ} where
-  pub going_start : WellFormed ring w before → Going ring w before before budget 0 None
+  pub going_start : WellFormed ring w before → Going ring w before before budget 0
   going_start h = record {
     most = omega arith;
     wellformed = h;
     length_kept = refl;
     same = ap (λ (x : ℕ). units ring w x 0 before) (omega arith);
-    bytes = ap (λ (x : ℕ). units_bytes ring w x before) (omega arith) ∙ sym (none_cover _);
   }
 
-  module _ {now : Machine} {used : ℕ} {covered : Covered} (going : Going ring w before now budget used covered) where
+  module _ {now : Machine} {used : ℕ} (going : Going ring w before now budget used) where
     -- the same, counted on from another number
     going_from : (u : ℕ) → units ring w budget u before ≡ units ring w (budget - used) (u + used) now
     going_from u =
@@ -155,21 +148,17 @@ module _ {ring : List ℕ} {w : ℕ} {before : Machine} {budget : ℕ} where
         ∙ ap (λ (d : Done). done d.machine (u + d.used)) e
         ∙ sym (units_shift ring w (budget - used) u used now)
 
-    pub going_then : {after : Machine} {n : ℕ} {more : Covered} → Going ring w now after (budget - used) n more
-        → Going ring w before after budget (used + n) (cover covered more)
-    going_then {after} {n} {more} next =
+    pub going_then : {after : Machine} {n : ℕ} → Going ring w now after (budget - used) n → Going ring w before after budget (used + n)
+    going_then {after} {n} next =
         let e : budget - used - n ≡ budget - (used + n) = omega arith in
         record {
           most = let g = going.most in let h = next.most in omega arith;
           wellformed = next.wellformed;
           length_kept = next.length_kept ∙ going.length_kept;
           same = going.same ∙ next_from next ∙ ap (λ (x : ℕ). units ring w x (used + n) after) e;
-          bytes =
-              going.bytes ∙ ap (cover covered) next.bytes ∙ cover_assoc covered more _
-              ∙ ap (λ (x : ℕ). cover (cover covered more) (units_bytes ring w x after)) e;
         }
       where
-        next_from : Going ring w now after (budget - used) n more
+        next_from : Going ring w now after (budget - used) n
             → units ring w (budget - used) used now ≡ units ring w (budget - used - n) (used + n) after
         next_from next =
             let z : used + 0 ≡ used = omega arith in
@@ -177,62 +166,51 @@ module _ {ring : List ℕ} {w : ℕ} {before : Machine} {budget : ℕ} where
             ∙ ap (λ (d : Done). done d.machine (used + d.used)) next.same
             ∙ sym (units_shift ring w (budget - used - n) used n after)
 
-    pub going_on : {Sort : Type 0} {after : Machine} {n : ℕ} {more : Covered} → Advanced Sort ring w now after (budget - used) n more
-        → (n ≡ 0 → ⊥) → Going ring w before after budget (used + n) (cover covered more)
+    pub going_on : {Sort : Type 0} {after : Machine} {n : ℕ} → Advanced Sort ring w now after (budget - used) n → (n ≡ 0 → ⊥)
+        → Going ring w before after budget (used + n)
     going_on (Advanced.none e i t s) z = absurd (z e)
-    going_on {after = after} {n} {more} (Advanced.some p l h k s b) z =
+    going_on {after = after} {n} (Advanced.some p l h k s) z =
         let e : budget - used - n ≡ budget - (used + n) = omega arith in
         record {
           most = let g = going.most in omega arith;
           wellformed = h;
           length_kept = k ∙ going.length_kept;
           same = going.same ∙ s used ∙ ap (λ (x : ℕ). units ring w x (used + n) after) e;
-          bytes =
-              going.bytes ∙ ap (cover covered) b ∙ cover_assoc covered more _
-              ∙ ap (λ (x : ℕ). cover (cover covered more) (units_bytes ring w x after)) e;
         }
 
-    pub plain_early : {after : Machine} {n : ℕ} {more : Covered}
-        → Advanced (hosts now.core.place ≡ false) ring w now after (budget - used) n more → n ≡ 0
-        → Plain ring w before (machine now.core after.table after.frame) budget used covered
+    pub plain_early : {after : Machine} {n : ℕ} → Advanced (hosts now.core.place ≡ false) ring w now after (budget - used) n → n ≡ 0
+        → Plain ring w before (machine now.core after.table after.frame) budget used
     plain_early {after} (Advanced.none e i t s) z = rw (t, s) (record { going = going; rests = λ l p. i p })
-    plain_early (Advanced.some p l h k s b) z = absurd (omega arith)
+    plain_early (Advanced.some p l h k s) z = absurd (omega arith)
 
-    pub plain_spent : budget ≤ used → Plain ring w before now budget used covered
+    pub plain_spent : budget ≤ used → Plain ring w before now budget used
     plain_spent l = record { going = going; rests = λ h p. absurd (omega arith) }
 
-    pub finished : budget ≤ used → Finished ring w before now budget used covered
+    pub finished : budget ≤ used → Finished ring w before now budget used
     finished h =
         let e : budget - used ≡ 0 = omega arith in
         record {
           wellformed = going.wellformed;
           same = going.same ∙ ap (λ (x : ℕ). units ring w x used now) e ∙ units_zero ring w used now;
-          bytes =
-              going.bytes ∙ ap (λ (x : ℕ). cover covered (units_bytes ring w x now)) e ∙ ap (cover covered) (bytes_zero ring w now)
-              ∙ cover_none covered;
         }
 
-  module _ {now : Machine} {used : ℕ} {covered : Covered} where
-    pub plain_then : Going ring w before now budget used covered → {after : Machine} {n : ℕ} {more : Covered}
-        → Plain ring w now after (budget - used) n more → Plain ring w before after budget (used + n) (cover covered more)
+  module _ {now : Machine} {used : ℕ} where
+    pub plain_then : Going ring w before now budget used → {after : Machine} {n : ℕ} → Plain ring w now after (budget - used) n
+        → Plain ring w before after budget (used + n)
     plain_then going next = record { going = going_then going next.going; rests = λ l p. next.rests (omega arith) p }
 
-    module _ (plain : Plain ring w before now budget used covered) {after : Machine} {n : ℕ} {more : Covered} where
-      pub stepped_on : Stepped ring w now after (budget - used) n more → (n ≡ 0 → ⊥)
-          → Plain ring w before after budget (used + n) (cover covered more)
+    module _ (plain : Plain ring w before now budget used) {after : Machine} {n : ℕ} where
+      pub stepped_on : Stepped ring w now after (budget - used) n → (n ≡ 0 → ⊥) → Plain ring w before after budget (used + n)
       stepped_on (Stepped.none e i t s) z = absurd (z e)
       stepped_on (Stepped.some l next) z = plain_then plain.going next
 
-      pub finished_early : Stepped ring w now after (budget - used) n more → n ≡ 0 → used < budget
-          → Finished ring w before (machine now.core after.table after.frame) budget used covered
+      pub finished_early : Stepped ring w now after (budget - used) n → n ≡ 0 → used < budget
+          → Finished ring w before (machine now.core after.table after.frame) budget used
       finished_early (Stepped.none e i t s) z l =
           rw (t, s)
           (record {
             wellformed = plain.going.wellformed;
             same = plain.going.same ∙ units_stop ring w (budget - used) used now (rest (hosts now.core.place) refl);
-            bytes =
-                plain.going.bytes ∙ ap (cover covered) (bytes_stop ring w (budget - used) now (rest (hosts now.core.place) refl))
-                ∙ cover_none covered;
           })
         where
           rest : (b : Bool) → hosts now.core.place ≡ b → possible ring now.core w ≡ false
@@ -241,39 +219,37 @@ module _ {ring : List ℕ} {w : ℕ} {before : Machine} {budget : ℕ} where
       finished_early (Stepped.some p next) z l = absurd (omega arith)
 
 -- none, or some and then as many as could be
-pub stepped_none : {ring : List ℕ} {w : ℕ} {before after : Machine} {left n : ℕ} {covered : Covered}
-    → Advanced (hosts before.core.place ≡ true) ring w before after left n covered → n ≡ 0
-    → Stepped ring w before (machine before.core after.table after.frame) left 0 None
+pub stepped_none : {ring : List ℕ} {w : ℕ} {before after : Machine} {left n : ℕ}
+    → Advanced (hosts before.core.place ≡ true) ring w before after left n → n ≡ 0
+    → Stepped ring w before (machine before.core after.table after.frame) left 0
 stepped_none (Advanced.none e i t s) z = Stepped.none refl i t s
-stepped_none (Advanced.some p l h k s b) z = absurd (omega arith)
+stepped_none (Advanced.some p l h k s) z = absurd (omega arith)
 
-module _ {Sort : Type 0} {ring : List ℕ} {w : ℕ} {before now : Machine} {left n : ℕ} {covered : Covered} where
-  going_of : Advanced Sort ring w before now left n covered → (n ≡ 0 → ⊥) → Going ring w before now left n covered
+module _ {Sort : Type 0} {ring : List ℕ} {w : ℕ} {before now : Machine} {left n : ℕ} where
+  going_of : Advanced Sort ring w before now left n → (n ≡ 0 → ⊥) → Going ring w before now left n
   going_of (Advanced.none e i t s) z = absurd (z e)
-  going_of (Advanced.some p l h k s b) z =
+  going_of (Advanced.some p l h k s) z =
       let e : 0 + n ≡ n = omega arith in
-      record { most = l; wellformed = h; length_kept = k; same = rw e at (s 0); bytes = b }
+      record { most = l; wellformed = h; length_kept = k; same = rw e at (s 0) }
 
-  pub advanced_formed : Advanced Sort ring w before now left n covered → (n ≡ 0 → ⊥) → WellFormed ring w now
+  pub advanced_formed : Advanced Sort ring w before now left n → (n ≡ 0 → ⊥) → WellFormed ring w now
   advanced_formed a z = (going_of a z).wellformed
 
-  pub stepped_some : Advanced Sort ring w before now left n covered → (n ≡ 0 → ⊥) → {after : Machine} {m : ℕ} {more : Covered}
-      → Plain ring w now after (left - n) m more → Stepped ring w before after left (n + m) (cover covered more)
+  pub stepped_some : Advanced Sort ring w before now left n → (n ≡ 0 → ⊥) → {after : Machine} {more : ℕ}
+      → Plain ring w now after (left - n) more → Stepped ring w before after left (n + more)
   stepped_some a z plain = Stepped.some (omega (arith, z)) (plain_then (going_of a z) plain)
 
 -- what is left to do
-pub plain_restart : {ring : List ℕ} {w : ℕ} {before now : Machine} {budget used : ℕ} {covered : Covered}
-    → Plain ring w before now budget used covered → Plain ring w now now (budget - used) 0 None
+pub plain_restart : {ring : List ℕ} {w : ℕ} {before now : Machine} {budget used : ℕ} → Plain ring w before now budget used
+    → Plain ring w now now (budget - used) 0
 plain_restart p = record { going = going_start p.going.wellformed; rests = λ l h. p.rests (omega arith) h }
 
-pub finished_then : {ring : List ℕ} {w : ℕ} {before now after : Machine} {budget used n : ℕ} {covered more : Covered}
-    → Going ring w before now budget used covered → Finished ring w now after (budget - used) n more
-    → Finished ring w before after budget (used + n) (cover covered more)
-finished_then {ring} {w} {now = now} {after} {budget} {used} {n} {covered} going f = record {
+pub finished_then : {ring : List ℕ} {w : ℕ} {before now after : Machine} {budget used n : ℕ} → Going ring w before now budget used
+    → Finished ring w now after (budget - used) n → Finished ring w before after budget (used + n)
+finished_then {ring} {w} {now = now} {after} {budget} {used} {n} going f = record {
   wellformed = f.wellformed;
   same = going.same ∙ (let z : used + 0 ≡ used = omega arith in rw z at (units_shift ring w (budget - used) used 0 now)
       ∙ ap (λ (d : Done). done d.machine (used + d.used)) f.same);
-  bytes = going.bytes ∙ ap (cover covered) f.bytes;
 }
 
 -- no more than the budget is done
@@ -281,20 +257,17 @@ units_most : (ring : List ℕ) (w n used : ℕ) (m : Machine) → (units ring w 
 units_most ring w =
     units_each ring w (λ n used m d. d.used ≤ used + n) (λ used m. omega arith) (λ n used m e. omega arith) (λ n used m d e i. omega arith)
 
-pub finished_most : {ring : List ℕ} {w : ℕ} {before after : Machine} {budget used : ℕ} {covered : Covered}
-    → Finished ring w before after budget used covered → used ≤ budget
+pub finished_most : {ring : List ℕ} {w : ℕ} {before after : Machine} {budget used : ℕ} → Finished ring w before after budget used → used ≤ budget
 finished_most {ring} {w} {before} {budget = budget} f =
     let e = ap (λ (d : Done). d.used) f.same in
     let l = units_most ring w budget 0 before in
     omega arith
 
-pub stepped_most : {ring : List ℕ} {w : ℕ} {before after : Machine} {left used : ℕ} {covered : Covered}
-    → Stepped ring w before after left used covered → used ≤ left
+pub stepped_most : {ring : List ℕ} {w : ℕ} {before after : Machine} {left used : ℕ} → Stepped ring w before after left used → used ≤ left
 stepped_most (Stepped.none e i t s) = omega arith
 stepped_most (Stepped.some l p) = p.going.most
 
-pub stepped_length : {ring : List ℕ} {w : ℕ} {before after : Machine} {left used : ℕ} {covered : Covered}
-    → Stepped ring w before after left used covered
+pub stepped_length : {ring : List ℕ} {w : ℕ} {before after : Machine} {left used : ℕ} → Stepped ring w before after left used
     → length after.frame ≡ length before.frame
 stepped_length (Stepped.none e i t s) = ap length s
 stepped_length (Stepped.some l p) = p.going.length_kept

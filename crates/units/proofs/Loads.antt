@@ -4,20 +4,16 @@ use Rattle.model.specs.Choice.{◌=?◌, if◌then◌else◌, not_both, if_both}
 use Rattle.model.specs.Refusals.{first}
 use Rattle.model.specs.Completion.{retired}
 use Rattle.model.specs.Judging.{judge}
-use Rattle.model.specs.Command.{kind_of, is_data, drawn_by}
+use Rattle.model.specs.Command.{kind_of, is_data}
 use Rattle.model.specs.Host.{host_word}
 use Rattle.model.specs.Unit.{wants, pixels_drawn, header_at, loaded_at, command_refusal, ready, stopped, place_after, loaded_core, taken_core, accepted_core, table_after}
-use Rattle.model.specs.Covers.{judged_bytes, command_bytes}
 use Rattle.model.specs.declared.Core.{Core}
-use Rattle.model.specs.declared.Covered.{Covered}
-use Rattle.model.specs.declared.Covered.TheVariants.{None}
 use Rattle.model.specs.declared.Drawn.TheVariants.{Nothing, Draws}
 use Rattle.model.specs.declared.Kind.TheVariants.{Table, Data}
 use Rattle.model.specs.declared.Place.{Place}
 use Rattle.model.specs.declared.Place.TheVariants.{Idle, Fed}
 use Rattle.model.specs.declared.Primitive.{Primitive}
 use Rattle.laws.specs.Fit.{accepted_header}
-use Rattle.laws.specs.Covers.{nothing_none, refused_none, drawn_bytes}
 use Rattle.command.specs.Look.{plain_table, taken_wanted}
 use Rattle.units.specs.Turns.{Loadable, Fillable, Acceptable, load_unit, table_unit, moved_core, command_table}
 
@@ -53,10 +49,6 @@ module _ (ring : List ℕ) (c : Core) where
 
   pub data_no_table : kind_of (header_at ring c) ≡ Data → kind_of (header_at ring c) ≡ Table → ⊥
   data_no_table d t = let z : ◌≡◌ {A = ℕ} 0 1 = cc in omega arith
-
-  -- a data command gives no bytes
-  pub data_none : kind_of (header_at ring c) ≡ Data → command_bytes ring c ≡ None
-  data_none d = nothing_none ring c (unfold drawn_by in rw d)
 
   pub table_filled : command_refusal ring c ≡ 0 → (table : List ℕ) → table_after ring c table ≡ table_unit ring c table
   unfolding table_unit
@@ -94,16 +86,10 @@ module _ (ring : List ℕ) (c : Core) where
       unfolding judge
       refusal = h.refusal_is ∙ sym (rw loads at judges)
 
-      pub load_refuses : (no ≡ 0 → ⊥) → (stopped c no ≡ load_unit ring c) × (None ≡ command_bytes ring c)
-      load_refuses z = (refuses refusal z, sym (refused_none ring c (λ e. z (sym refusal ∙ e))))
+      pub load_refuses : (no ≡ 0 → ⊥) → stopped c no ≡ load_unit ring c
+      load_refuses z = refuses refusal z
 
       pub load_draws : no ≡ 0 → {place : Place} → place ≡ place_after (Draws primitive) registers
           → moved_core c registers next c.completion place ≡ load_unit ring c
       unfolding loaded_core moved_core
       load_draws z e = rw (e, loads) (rw (h.drawn_is, h.next_is) at (accepts (refusal ∙ z) h.no_data))
-
-      pub load_gives : no ≡ 0 → {covered : Covered} → covered ≡ judged_bytes primitive registers c.framelength → covered ≡ command_bytes ring c
-      unfolding judged_bytes
-      load_gives z e =
-          let j : judge primitive registers c.framelength ≡ 0 = sym judges ∙ z in
-          e ∙ rw (j, loads) (sym (drawn_bytes ring c (refusal ∙ z) h.drawn_is))

@@ -9,11 +9,8 @@ use Rattle.model.specs.Formats.{Depth, format_of, depth_of}
 use Rattle.model.specs.Registers.{format_code}
 use Rattle.model.specs.Host.{host_word, draw_host}
 use Rattle.model.specs.Unit.{Machine, wants, pixels_drawn, header_at, counted_at, length_at, returns_at, loaded_at, drawn_rules, command_refusal, ready, stopped, accepted_core, table_after, pixel_count, drawn_core, fed_word, fed_core, possible, units, done}
-use Rattle.model.specs.Covers.{cover, command_bytes, units_bytes}
 use Rattle.model.specs.Calls.{run_word}
 use Rattle.model.specs.declared.Core.{Core}
-use Rattle.model.specs.declared.Covered.{Covered}
-use Rattle.model.specs.declared.Covered.TheVariants.{None}
 use Rattle.model.specs.declared.Drawn.{Drawn}
 use Rattle.model.specs.declared.Drawn.TheVariants.{Nothing}
 use Rattle.model.specs.declared.Feed.{Feed}
@@ -92,35 +89,32 @@ moved_core c registers read completion place = record {
   place = place;
 }
 
--- the unit that accepts or refuses a command, with the bytes that it gives
-abbrev pub load_turn : List ℕ → Core → Turn
-load_turn ring c = record { core = load_unit ring c; used = 1; covered = command_bytes ring c }
+abbrev pub turn : Core → ℕ → Turn
+turn c used = record { core = c; used = used }
 
 -- the turn of an engine that draws nothing, and the table after it
 unfoldable pub command_turn : List ℕ → Core → ℕ → Turn
-command_turn ring c write = if ready ring c write then load_turn ring c else record { core = c; used = 0; covered = None }
+command_turn ring c write = if ready ring c write then turn (load_unit ring c) 1 else turn c 0
 
 unfoldable pub command_table : List ℕ → Core → ℕ → List ℕ → List ℕ
 command_table ring c write table = if ready ring c write then table_unit ring c table else table
 
--- some pixels of the command in progress are drawn, at most `left`, and give no bytes of their own
-pub record Painted (c : Core) (primitive : Primitive) (k : ℕ) (table before after : List ℕ) (left : ℕ) (d : Core) (used : ℕ) (covered : Covered) : Type 0 where
+-- some pixels of the command in progress are drawn, at most `left`
+pub record Painted (c : Core) (primitive : Primitive) (k : ℕ) (table before after : List ℕ) (left : ℕ) (d : Core) (used : ℕ) : Type 0 where
   pub some : 0 < used
   pub most : used ≤ left
   pub within : k + used ≤ pixel_count primitive c.registers
   pub core_is : d ≡ drawn_core c primitive (k + used)
   pub frame_is : after ≡ pixels primitive c.registers table k used before
-  pub gives_none : covered ≡ None
 
 -- some pixels are drawn that a data command feeds, at most `left`
-pub record FedOn (ring : List ℕ) (c : Core) (k : ℕ) (feed : Feed) (table before after : List ℕ) (left : ℕ) (d : Core) (used : ℕ) (covered : Covered) : Type 0 where
+pub record FedOn (ring : List ℕ) (c : Core) (k : ℕ) (feed : Feed) (table before after : List ℕ) (left : ℕ) (d : Core) (used : ℕ) : Type 0 where
   pub some : 0 < used
   pub most : used ≤ left
   pub within : k + used ≤ pixel_count Blt c.registers
   pub feeding : (x : ℕ) → x < used → host_word c.registers (k + x) < feed.before + feed.count
   pub core_is : d ≡ fed_core c (k + used) feed
   pub frame_is : after ≡ in_order (λ k. draw_host c.registers table k (fed_word ring c feed (host_word c.registers k))) k used before
-  pub gives_none : covered ≡ None
 
 -- a BLT takes data: it wants some or is fed
 abbrev pub hosts : Place → Bool
@@ -130,39 +124,36 @@ hosts (Wanting k) = true
 hosts (Fed k feed) = true
 
 -- none was done, and if the engine is of the sort that was asked for, none could be; or some were, at most `left`, and what is left of
--- the budget goes on from there, with the bytes that it gives
-pub data Advanced (Sort : Type 0) (ring : List ℕ) (write : ℕ) (before after : Machine) (left used : ℕ) (covered : Covered) : Type 0 where
+-- the budget goes on from there
+pub data Advanced (Sort : Type 0) (ring : List ℕ) (write : ℕ) (before after : Machine) (left used : ℕ) : Type 0 where
   none : used ≡ 0 → (Sort → possible ring before.core write ≡ false) → after.table ≡ before.table → after.frame ≡ before.frame
-      → Advanced Sort ring write before after left used covered
+      → Advanced Sort ring write before after left used
   some : 0 < used → used ≤ left → WellFormed ring write after → length after.frame ≡ length before.frame
       → ((u : ℕ) → units ring write left u before ≡ units ring write (left - used) (u + used) after)
-      → units_bytes ring write left before ≡ cover covered (units_bytes ring write (left - used) after)
-      → Advanced Sort ring write before after left used covered
+      → Advanced Sort ring write before after left used
 
 -- some of a budget's units are done, and the rest go on from there
-pub record Going (ring : List ℕ) (write : ℕ) (before now : Machine) (budget used : ℕ) (covered : Covered) : Type 0 where
+pub record Going (ring : List ℕ) (write : ℕ) (before now : Machine) (budget used : ℕ) : Type 0 where
   pub most : used ≤ budget
   pub wellformed : WellFormed ring write now
   pub length_kept : length now.frame ≡ length before.frame
   pub same : units ring write budget 0 before ≡ units ring write (budget - used) used now
-  pub bytes : units_bytes ring write budget before ≡ cover covered (units_bytes ring write (budget - used) now)
 
 -- as many as could be without a BLT that takes data
-pub record Plain (ring : List ℕ) (write : ℕ) (before now : Machine) (budget used : ℕ) (covered : Covered) : Type 0 where
-  pub going : Going ring write before now budget used covered
+pub record Plain (ring : List ℕ) (write : ℕ) (before now : Machine) (budget used : ℕ) : Type 0 where
+  pub going : Going ring write before now budget used
   pub rests : used < budget → hosts now.core.place ≡ false → possible ring now.core write ≡ false
 
 -- none by a BLT that takes data; or some, and then as many as could be without one
-pub data Stepped (ring : List ℕ) (write : ℕ) (before after : Machine) (left used : ℕ) (covered : Covered) : Type 0 where
+pub data Stepped (ring : List ℕ) (write : ℕ) (before after : Machine) (left used : ℕ) : Type 0 where
   none : used ≡ 0 → (hosts before.core.place ≡ true → possible ring before.core write ≡ false) → after.table ≡ before.table
-      → after.frame ≡ before.frame → Stepped ring write before after left used covered
-  some : 0 < used → Plain ring write before after left used covered → Stepped ring write before after left used covered
+      → after.frame ≡ before.frame → Stepped ring write before after left used
+  some : 0 < used → Plain ring write before after left used → Stepped ring write before after left used
 
 -- all the units of a budget were done, or as many as could be
-pub record Finished (ring : List ℕ) (write : ℕ) (before after : Machine) (budget used : ℕ) (covered : Covered) : Type 0 where
+pub record Finished (ring : List ℕ) (write : ℕ) (before after : Machine) (budget used : ℕ) : Type 0 where
   pub wellformed : WellFormed ring write after
   pub same : units ring write budget 0 before ≡ done after used
-  pub bytes : units_bytes ring write budget before ≡ covered
 
 -- the word that a run reports of a core that it leaves; the table has no part in it
 abbrev pub word_of : List ℕ → Core → ℕ → RunWord

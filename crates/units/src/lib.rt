@@ -4,65 +4,14 @@ ghost use Rattle.std.specs.Prelude.{◌≡◌, ◌+◌, ◌*◌, ◌<◌, ◌≤
 ghost use Rattle.model.specs.Limits.{frame_most, side_most};
 ghost use Rattle.model.specs.Completion.{retired};
 ghost use Rattle.model.specs.Unit.{stopped, place_after, pixels_drawn, wants, pixel_count, drawn_core, fed_core, drawing, ready};
-ghost use Rattle.model.specs.Covers.{lower, higher, cover};
-ghost use Rattle.model.specs.declared.Covered.TheVariants.{None as NoBytes};
 ghost use Rattle.model.specs.declared.Drawn.TheVariants.{Draws};
 ghost use Rattle.model.specs.Steps.{machine};
 ghost use Rattle.laws.specs.Fit.{Fit, FitPlace, FitFed};
 ghost use Rattle.laws.specs.WellFormed.{WellFormed};
-ghost use Rattle.units.specs.Turns.{FitCore, Loadable, Fillable, Acceptable, Feedable, load_unit, load_turn, table_unit, moved_core, command_turn, command_table, Painted, FedOn, hosts, Advanced, Plain, Stepped, Finished, word_of};
+ghost use Rattle.units.specs.Turns.{FitCore, Loadable, Fillable, Acceptable, Feedable, load_unit, table_unit, moved_core, command_turn, command_table, Painted, FedOn, hosts, Advanced, Plain, Stepped, Finished, word_of};
 
 use command::Seen;
-use model::{Core, Covered, Drawn, Feed, Place, Primitive, REGISTERS, RunWord, TABLE};
-
-// Units done in one go, the core after them, and the bytes that they give: none, one command's load or refusal, or a span of pixels.
-#[derive(Drop)]
-pub struct Turn {
-    pub core: Core,
-    pub used: u32,
-    pub covered: Covered,
-}
-
-// ---- which bytes
-
-// The lower of two numbers.
-fn lower(a: usize, b: usize) -> usize
-    ensures { result ≡ lower a b }
-{
-    if b < a {
-        return b;
-    }
-    a
-}
-
-// The higher of two numbers.
-fn higher(a: usize, b: usize) -> usize
-    ensures { result ≡ higher a b }
-{
-    if a < b {
-        return b;
-    }
-    a
-}
-
-// The lowest and the highest over two answers.
-fn cover(a: Covered, b: Covered) -> Covered
-    ensures { result ≡ cover a b }
-{
-    match a {
-        Covered::None => b,
-        Covered::Range { low, high } => match b {
-            Covered::None => a,
-            Covered::Range {
-                low: others,
-                high: top,
-            } => Covered::Range {
-                low: lower(low, others),
-                high: higher(high, top),
-            },
-        },
-    }
-}
+use model::{Core, Drawn, Feed, Place, Primitive, REGISTERS, RunWord, TABLE};
 
 // ---- what a unit changes of the core
 
@@ -117,36 +66,22 @@ fn first_place(primitive: Primitive, registers: [u32; REGISTERS]) -> Place
     Place::Drawing(primitive, 0)
 }
 
-// The unit that loads the whole BLT or vector at the read pointer, or refuses it by judging.
-fn load(c: Core, ring: &[u32], header: u32, drawn: Drawn, next: usize) -> Turn
+// The core after the unit that loads the whole BLT or vector at the read pointer, or refuses it by judging.
+fn load(c: Core, ring: &[u32], header: u32, drawn: Drawn, next: usize) -> Core
     requires { Loadable ring.now c header drawn next }
-    ensures { result ≡ load_turn ring.now c }
+    ensures { result ≡ load_unit ring.now c }
 {
     let old = c.registers;
     let registers = command::load(old, ring, c.read, header);
     match drawn {
-        Drawn::Nothing => Turn {
-            core: moved(c, registers, next, retire(c.completion), Place::Idle),
-            used: 1,
-            covered: Covered::None,
-        },
+        Drawn::Nothing => moved(c, registers, next, retire(c.completion), Place::Idle),
         Drawn::Draws(primitive) => {
-            let judged = judging::judge(primitive, registers, c.framelength);
-            let no = judged.number;
+            let no = judging::refusal(primitive, registers, c.framelength);
             if no != 0 {
-                return Turn {
-                    core: halt(c, no),
-                    used: 1,
-                    covered: Covered::None,
-                };
+                return halt(c, no);
             }
             let place = first_place(primitive, registers);
-            let covered = judged.covered;
-            Turn {
-                core: moved(c, registers, next, c.completion, place),
-                used: 1,
-                covered,
-            }
+            moved(c, registers, next, c.completion, place)
         }
     }
 }
@@ -252,6 +187,13 @@ fn fed(c: Core, k: usize, feed: Feed) -> Core
 
 // ---- units
 
+// Units done in one go, and the core after them: none, one command's load or refusal, or a span of pixels.
+#[derive(Drop)]
+pub struct Turn {
+    pub core: Core,
+    pub used: u32,
+}
+
 // Whether a BLT wants data.
 fn is_wanting(place: Place) -> bool
     ensures { result ≡ wants place }
@@ -287,31 +229,24 @@ fn take(c: Core, write: usize, ring: &[u32], table: &mut [u32; TABLE]) -> Turn
     let counted = command::table_word(ring, read);
     let seen = command::look(c.ringlength, read, write, header, counted);
     match seen {
-        Seen::Waits => Turn {
-            core: c,
-            used: 0,
-            covered: Covered::None,
-        },
+        Seen::Waits => Turn { core: c, used: 0 },
         Seen::Refused(number) => Turn {
             core: halt(c, number),
             used: 1,
-            covered: Covered::None,
         },
-        Seen::Whole { drawn, next } => load(c, ring, header, drawn, next),
+        Seen::Whole { drawn, next } => Turn {
+            core: load(c, ring, header, drawn, next),
+            used: 1,
+        },
         Seen::Table { count, next } => Turn {
             core: fill(c, table, ring, header, count, next),
             used: 1,
-            covered: Covered::None,
         },
         // nobody wants data
         Seen::Data {
             count: _,
             returns: _,
-        } => Turn {
-            core: c,
-            used: 0,
-            covered: Covered::None,
-        },
+        } => Turn { core: c, used: 0 },
     }
 }
 
@@ -325,32 +260,18 @@ fn take_data(c: Core, write: usize, ring: &[u32]) -> Turn
     let counted = command::count_word(ring, read, header);
     let seen = command::look_for_data(c.ringlength, read, write, header, counted);
     match seen {
-        Seen::Waits => Turn {
-            core: c,
-            used: 0,
-            covered: Covered::None,
-        },
+        Seen::Waits => Turn { core: c, used: 0 },
         Seen::Refused(number) => Turn {
             core: halt(c, number),
             used: 1,
-            covered: Covered::None,
         },
         Seen::Data { count, returns } => Turn {
             core: accept(c, ring, count, returns),
             used: 1,
-            covered: Covered::None,
         },
         // no other command is accepted
-        Seen::Whole { drawn: _, next: _ } => Turn {
-            core: c,
-            used: 0,
-            covered: Covered::None,
-        },
-        Seen::Table { count: _, next: _ } => Turn {
-            core: c,
-            used: 0,
-            covered: Covered::None,
-        },
+        Seen::Whole { drawn: _, next: _ } => Turn { core: c, used: 0 },
+        Seen::Table { count: _, next: _ } => Turn { core: c, used: 0 },
     }
 }
 
@@ -364,7 +285,7 @@ fn paint(
     left: u32,
 ) -> Turn
     requires { (FitPlace c primitive k) × (length frame.old ≡ c.framelength) × (c.framelength ≤ frame_most) × (0 < left) }
-    ensures { Painted c primitive k table.now frame.old frame.new left result.core result.used result.covered }
+    ensures { Painted c primitive k table.now frame.old frame.new left result.core result.used }
 {
     let registers = c.registers;
     let n = span(primitive, registers, k, left);
@@ -373,7 +294,6 @@ fn paint(
     Turn {
         core: drawn(c, primitive, k + more),
         used: n,
-        covered: Covered::None,
     }
 }
 
@@ -390,7 +310,7 @@ fn feed_pixels(
     left: u32,
 ) -> Turn
     requires { (FitFed c write k feed) × (WellFormed ring.now write (machine c table.now frame.old)) × (0 < left) }
-    ensures { FedOn ring.now c k feed table.now frame.old frame.new left result.core result.used result.covered }
+    ensures { FedOn ring.now c k feed table.now frame.old frame.new left result.core result.used }
 {
     let registers = c.registers;
     let before = feed.before as usize;
@@ -413,7 +333,6 @@ fn feed_pixels(
     Turn {
         core: fed(c, k + more, feed),
         used: n,
-        covered: Covered::None,
     }
 }
 
@@ -428,29 +347,17 @@ fn advance(
     left: u32,
 ) -> Turn
     requires { (WellFormed ring.now write (machine c table.old frame.old)) × (0 < left) }
-    ensures { Advanced (hosts c.place ≡ false) ring.now write (machine c table.old frame.old) (machine result.core table.new frame.new) left result.used result.covered }
+    ensures { Advanced (hosts c.place ≡ false) ring.now write (machine c table.old frame.old) (machine result.core table.new frame.new) left result.used }
 {
     if c.stop != 0 {
-        return Turn {
-            core: c,
-            used: 0,
-            covered: Covered::None,
-        };
+        return Turn { core: c, used: 0 };
     }
     let place = c.place;
     match place {
         Place::Idle => take(c, write, ring, table),
         Place::Drawing(primitive, k) => paint(c, primitive, k, table, frame, left),
-        Place::Wanting(_) => Turn {
-            core: c,
-            used: 0,
-            covered: Covered::None,
-        },
-        Place::Fed(_, _) => Turn {
-            core: c,
-            used: 0,
-            covered: Covered::None,
-        },
+        Place::Wanting(_) => Turn { core: c, used: 0 },
+        Place::Fed(_, _) => Turn { core: c, used: 0 },
     }
 }
 
@@ -465,31 +372,20 @@ fn do_plain(
     budget: u32,
 ) -> Turn
     requires { WellFormed ring.now write (machine c table.old frame.old) }
-    ensures { Plain ring.now write (machine c table.old frame.old) (machine result.core table.new frame.new) budget result.used result.covered }
+    ensures { Plain ring.now write (machine c table.old frame.old) (machine result.core table.new frame.new) budget result.used }
 {
     let mut d = c;
     let mut used = 0;
-    let mut covered = Covered::None;
     while used < budget {
         let a = advance(d, write, ring, table, frame, budget - used);
         if a.used == 0 {
-            return Turn {
-                core: d,
-                used,
-                covered,
-            };
+            return Turn { core: d, used };
         }
         let next = a.core;
         d = next;
         used += a.used;
-        let more = a.covered;
-        covered = cover(covered, more);
     }
-    Turn {
-        core: d,
-        used,
-        covered,
-    }
+    Turn { core: d, used }
 }
 // Does the next units of a BLT that takes data, if any can be done: accepts a data command, or draws what it feeds.
 fn advance_data(
@@ -501,27 +397,15 @@ fn advance_data(
     left: u32,
 ) -> Turn
     requires { (WellFormed ring.now write (machine c table.now frame.old)) × (0 < left) }
-    ensures { Advanced (hosts c.place ≡ true) ring.now write (machine c table.now frame.old) (machine result.core table.now frame.new) left result.used result.covered }
+    ensures { Advanced (hosts c.place ≡ true) ring.now write (machine c table.now frame.old) (machine result.core table.now frame.new) left result.used }
 {
     if c.stop != 0 {
-        return Turn {
-            core: c,
-            used: 0,
-            covered: Covered::None,
-        };
+        return Turn { core: c, used: 0 };
     }
     let place = c.place;
     match place {
-        Place::Idle => Turn {
-            core: c,
-            used: 0,
-            covered: Covered::None,
-        },
-        Place::Drawing(_, _) => Turn {
-            core: c,
-            used: 0,
-            covered: Covered::None,
-        },
+        Place::Idle => Turn { core: c, used: 0 },
+        Place::Drawing(_, _) => Turn { core: c, used: 0 },
         Place::Wanting(_) => take_data(c, write, ring),
         Place::Fed(k, feed) => feed_pixels(c, write, k, feed, ring, table, frame, left),
     }
@@ -537,25 +421,18 @@ fn advance_both(
     left: u32,
 ) -> Turn
     requires { (WellFormed ring.now write (machine c table.old frame.old)) × (0 < left) }
-    ensures { Stepped ring.now write (machine c table.old frame.old) (machine result.core table.new frame.new) left result.used result.covered }
+    ensures { Stepped ring.now write (machine c table.old frame.old) (machine result.core table.new frame.new) left result.used }
 {
     let a = advance_data(c, write, ring, table, frame, left);
     if a.used == 0 {
-        return Turn {
-            core: c,
-            used: 0,
-            covered: Covered::None,
-        };
+        return Turn { core: c, used: 0 };
     }
     let d = a.core;
     let b = do_plain(d, write, ring, table, frame, left - a.used);
     let e = b.core;
-    let first = a.covered;
-    let more = b.covered;
     Turn {
         core: e,
         used: a.used + b.used,
-        covered: cover(first, more),
     }
 }
 
@@ -568,32 +445,21 @@ fn go_on(
     frame: &mut [u8],
     budget: u32,
 ) -> Turn
-    requires { Plain ring.now write (machine c table.old frame.old) (machine c table.old frame.old) budget 0 NoBytes }
-    ensures { Finished ring.now write (machine c table.old frame.old) (machine result.core table.new frame.new) budget result.used result.covered }
+    requires { Plain ring.now write (machine c table.old frame.old) (machine c table.old frame.old) budget 0 }
+    ensures { Finished ring.now write (machine c table.old frame.old) (machine result.core table.new frame.new) budget result.used }
 {
     let mut d = c;
     let mut used = 0;
-    let mut covered = Covered::None;
     while used < budget {
         let a = advance_both(d, write, ring, table, frame, budget - used);
         if a.used == 0 {
-            return Turn {
-                core: d,
-                used,
-                covered,
-            };
+            return Turn { core: d, used };
         }
         let next = a.core;
         d = next;
         used += a.used;
-        let more = a.covered;
-        covered = cover(covered, more);
     }
-    Turn {
-        core: d,
-        used,
-        covered,
-    }
+    Turn { core: d, used }
 }
 
 // Does units until no further one can be done or the budget is used.
@@ -606,18 +472,15 @@ pub fn do_units(
     budget: u32,
 ) -> Turn
     requires { WellFormed ring.now write (machine c table.old frame.old) }
-    ensures { Finished ring.now write (machine c table.old frame.old) (machine result.core table.new frame.new) budget result.used result.covered }
+    ensures { Finished ring.now write (machine c table.old frame.old) (machine result.core table.new frame.new) budget result.used }
 {
     let a = do_plain(c, write, ring, table, frame, budget);
     let d = a.core;
     let b = go_on(d, write, ring, table, frame, budget - a.used);
     let e = b.core;
-    let first = a.covered;
-    let more = b.covered;
     Turn {
         core: e,
         used: a.used + b.used,
-        covered: cover(first, more),
     }
 }
 

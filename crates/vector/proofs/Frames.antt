@@ -19,9 +19,9 @@ use Rattle.model.specs.declared.Extent.TheVariants.{Inside, Outside}
 use Rattle.model.specs.declared.Vector.{Vector}
 use Rattle.model.specs.declared.Position.{Position}
 use Rattle.laws.specs.Pixels.{depth_least}
-use Rattle.laws.specs.Some.{some_not, some_at, some_none, least_is, greatest_is, is_outside, extent_outside}
+use Rattle.laws.specs.Some.{some_not, some_at, some_none, is_outside, extent_outside}
 use Rattle.laws.specs.Ranges.{RangedVector, FitVector}
-use Rattle.laws.specs.Walks.{Onward, position_on, one_way, Leads, position_leads}
+use Rattle.laws.specs.Walks.{Onward, position_on}
 use Rattle.laws.specs.Order.{in_order, vector_pixels}
 
 -- ---- one pixel, at plus - minus
@@ -65,14 +65,6 @@ module _ (size depth plus minus : ℕ) where
 -- `next` is `new` where a is below b, else `old`
 abbrev pub Chosen : (a b new old next : ℕ) → Type 0
 Chosen a b new old next = ((a < b) × (next ≡ new)) ⊎ ((b ≤ a) × (next ≡ old))
-
--- the lower and the higher of two numbers
-abbrev pub Ends : (at offset low high : ℕ) → Type 0
-Ends at offset low high = ((at < offset) × (low ≡ at) × (high ≡ offset)) ⊎ ((offset ≤ at) × (low ≡ offset) × (high ≡ at))
-
-pub ends_most : {at offset low high : ℕ} → Ends at offset low high → high ≤ at + offset
-ends_most (inl h) = omega arith
-ends_most (inr h) = omega arith
 
 one_less : (k : ℕ) → suc k - 1 ≡ k
 one_less k = omega arith
@@ -148,55 +140,6 @@ module _ (size : ℕ) (v : Vector) where
       let z = depth_least d in
       let q : end - 1 ≡ greatest (v.length - 1) (λ i. byte_at (position v i)) + (v.depth - 1) = omega (arith, g.highest) in
       rw (g.inside, g.lowest, q)
-
-  -- where every step leads the same way all pixels lie between the first and the last, which begin at `offset` and at `at`
-  module _ (r : RangedVector v) (w : one_way v ≡ true) {s : Position} (e : s ≡ position v (v.length - 1)) (p : s.minus ≤ v.offset + s.plus) where
-    abbrev byte_of : ℕ → ℕ
-    byte_of k = byte_at (position v k)
-
-    between : (low high : ℕ) → Ends (byte_at s) v.offset low high → (k : ℕ) → k < v.length
-        → (low ≤ byte_of k) × (byte_of k ≤ high) × ((position v k).minus ≤ v.offset + (position v k).plus)
-    unfolding position
-    between low high ends k l =
-        let from = position_leads v w 0 k {j = k} (omega arith) in
-        let to = rw (sym e) at (position_leads v w k (v.length - 1 - k) {j = v.length - 1} (omega arith)) in
-        go v.majorpositive from to ends
-      where
-        go : (up : Bool) → Leads up (position v 0) (position v k) → Leads up (position v k) s → Ends (byte_at s) v.offset low high
-            → (low ≤ byte_of k) × (byte_of k ≤ high) × ((position v k).minus ≤ v.offset + (position v k).plus)
-        go true from to (inl h) = (omega arith, omega arith, omega arith)
-        go true from to (inr h) = (omega arith, omega arith, omega arith)
-        go false from to (inl h) = (omega arith, omega arith, omega arith)
-        go false from to (inr h) = (omega arith, omega arith, omega arith)
-
-    -- both are found
-    found : {low high : ℕ} → Ends (byte_at s) v.offset low high
-        → ((i : ℕ) × (i ≤ v.length - 1) × (byte_of i ≡ low)) × ((i : ℕ) × (i ≤ v.length - 1) × (byte_of i ≡ high))
-    unfolding position
-    found (inl h) = ((v.length - 1, omega arith, rw (sym e) (sym h.1)), (0, omega arith, omega arith))
-    found (inr h) = ((0, omega arith, omega arith), (v.length - 1, omega arith, rw (sym e) (sym h.2)))
-
-    pub ends_above : {low high : ℕ} → Ends (byte_at s) v.offset low high → size < high + v.depth → Outside ≡ vector_extent size v
-    unfolding position
-    ends_above (inl h) q = is_above 0 {s = position v 0} refl (omega (arith, r.long)) r.deep (omega arith) (omega arith)
-    ends_above (inr h) q = is_above (v.length - 1) e (omega (arith, r.long)) r.deep p (omega arith)
-
-    pub ends_in : {low high : ℕ} → Ends (byte_at s) v.offset low high → high + v.depth ≤ size
-        → Inside low (high + v.depth - 1) ≡ vector_extent size v
-    unfolding outside extent
-    ends_in {low} {high} ends q =
-        let all = between low high ends in
-        let at = found ends in
-        let d = depth_least r.deep in
-        let z = r.long in
-        let last : high + v.depth - 1 ≡ high + (v.depth - 1) = omega arith in
-        rw (
-          some_none v.length (λ i. position_outside (position v i))
-              (λ i l. let b = all i l in pixel_in size v.depth (v.offset + (position v i).plus) (position v i).minus b.2 (omega arith)),
-          least_is byte_of low (v.length - 1) at.0.0 at.0.1 at.0.2 (λ i l. (all i (omega arith)).0),
-          greatest_is byte_of high (v.length - 1) at.1.0 at.1.1 at.1.2 (λ i l. (all i (omega arith)).1),
-          last,
-        )
 
   -- all that is added, and all that is taken away, on the way to the last pixel leads to no byte outside
   pub is_near : (k : ℕ) {s : Position} → RangedVector v → s ≡ position v k → k + 1 ≡ v.length → s.minus ≤ v.offset

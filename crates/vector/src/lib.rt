@@ -5,7 +5,7 @@ ghost use Rattle.model.specs.Limits.{frame_most, side_most};
 ghost use Rattle.model.specs.VectorPixel.{signed16, vector_of, major_step, minor_step, moved, step, position, vector_outside, vector_extent};
 ghost use Rattle.laws.specs.Order.{vector_pixels};
 ghost use Rattle.laws.specs.Ranges.{RangedVector, FitVector};
-ghost use Rattle.laws.specs.Walks.{Near, one_way};
+ghost use Rattle.laws.specs.Walks.{Near};
 ghost use Rattle.laws.specs.ClosedForm.{Terms, unbiased, error_at, diagonals};
 
 use model::{
@@ -218,8 +218,9 @@ fn position_of(v: Vector, k: usize) -> Position
 
 // ---- frame memory
 
-// Where the pixels of a vector lie in a frame memory of so many bytes. Every pixel is looked at: one in the middle can reach furthest.
-fn walk(framelength: usize, v: Vector) -> Extent
+// Where the pixels of a vector lie in a frame memory of so many bytes. Every pixel is looked at: where the two signs differ, one
+// in the middle can reach furthest.
+pub fn extent(framelength: usize, v: Vector) -> Extent
     requires { RangedVector v }
     ensures { result ≡ vector_extent framelength v }
 {
@@ -254,50 +255,6 @@ fn walk(framelength: usize, v: Vector) -> Extent
     Extent::Inside { low, high: end - 1 }
 }
 
-// Whether every step leads the same way, up or down: the signs are the same, or one step along the major axis makes up for one along the
-// minor.
-fn is_one_way(v: Vector) -> bool
-    ensures { result ≡ one_way v }
-{
-    let majorpositive = v.majorpositive;
-    let minorpositive = v.minorpositive;
-    if majorpositive == minorpositive {
-        return true;
-    }
-    minor_step(v) <= major_step(v)
-}
-
-// Where they lie: by the first and the last pixel where every step leads the same way, else by all of them.
-pub fn extent(framelength: usize, v: Vector) -> Extent
-    requires { RangedVector v }
-    ensures { result ≡ vector_extent framelength v }
-{
-    let straight = is_one_way(v);
-    if !straight {
-        return walk(framelength, v);
-    }
-    let depth = v.depth;
-    let offset = v.offset;
-    let last = position_of(v, v.length - 1);
-    let sum = offset + last.plus;
-    let minus = last.minus;
-    if sum < minus {
-        return Extent::Outside;
-    }
-    let at = sum - minus;
-    let mut low = offset;
-    let mut high = at;
-    if at < offset {
-        low = at;
-        high = offset;
-    }
-    let end = high + depth;
-    if framelength < end {
-        return Extent::Outside;
-    }
-    Extent::Inside { low, high: end - 1 }
-}
-
 // Whether some byte of some pixel of the vector lies outside. No pixel has more added to its offset, or more taken away, than the
 // last: where these two taken apart stay inside, so does every pixel, and no other is looked at.
 pub fn outside(framelength: usize, v: Vector) -> bool
@@ -314,7 +271,7 @@ pub fn outside(framelength: usize, v: Vector) -> bool
             return false;
         }
     }
-    match walk(framelength, v) {
+    match extent(framelength, v) {
         Extent::Inside { low: _, high: _ } => false,
         Extent::Outside => true,
     }

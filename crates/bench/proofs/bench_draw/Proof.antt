@@ -9,17 +9,14 @@ replay-requires c κs = search rules
 parts-of-requires : tie.Need-parts-of-requires
 parts-of-requires c κs = search rules
 
-span-of-requires : tie.Need-span-of-requires
-span-of-requires c κs = search rules
-
 same_length : tie.Need-same-length
 same_length c = search rules
 
 returns : tie.Need-returns
 returns c = (
-  rw (c.before.before.before.parts-of.ensures, c.before.before.Span-of.ensures, c.before.before.before.before.before.before.replay.ensures.0) (record { units_are = refl; retired_is = refl; number_is = refl; low_is = refl; high_is = refl }),
-  c.before.before.before.before.before.before.replay.ensures.1,
+  rw (c.before.before.parts-of.ensures, c.before.before.before.before.before.replay.ensures.0) (record { units_are = refl; retired_is = refl; number_is = refl }),
+  c.before.before.before.before.before.replay.ensures.1,
 )
 
 pub bench-draw-spec : {M : Type 1} → statement M
-bench-draw-spec = tie.close (tie.spec replay-requires parts-of-requires span-of-requires same_length returns)
+bench-draw-spec = tie.close (tie.spec replay-requires parts-of-requires same_length returns)

@@ -1,4 +1,4 @@
-use Rattle.units.proofs.Advances.{advanced_most, advanced_formed, stepped_none, stepped_some, stepped_length}
+use Rattle.units.proofs.Advances.{advanced_most, advanced_formed, stepped_none, stepped_some}
 use Rattle.std.proofs.Common.{arith, rules}
 use Rattle.units.proofs.advance_both.Statement.{statement}
 use Rattle.units.proofs.advance_both.Tie as tie
@@ -28,16 +28,16 @@ do-plain-requires : tie.Need-do-plain-requires
 do-plain-requires c κs = advanced_formed c.before.before.before.before.before.before.before.before.advance-data.ensures c.before.before.before.before.if1.false
 
 -- src/lib.rt:431:15
-add-t21 : tie.Need-overflow-add-t21
-add-t21 c = omega (arith, advanced_most c.before.before.before.before.before.before.before.before.before.before.before.before.before.before.advance-data.ensures, c.before.before.before.before.before.do-plain.ensures.going.most, c.before.before.before.before.before.before.before.before.before.before.before.before.before.before.before.before.before.before.before.ranges.left)
+add-t18 : tie.Need-overflow-add-t18
+add-t18 c = omega (arith, advanced_most c.before.before.before.before.before.before.before.before.before.before.before.before.before.before.advance-data.ensures, c.before.before.before.before.before.do-plain.ensures.going.most, c.before.before.before.before.before.before.before.before.before.before.before.before.before.before.before.before.before.before.before.ranges.left)
 
 -- src/lib.rt:411:1
 same-length-2 : tie.Need-same-length-2
-same-length-2 c = stepped_length (stepped_some c.before.before.before.before.before.before.before.before.before.before.before.before.before.before.before.advance-data.ensures c.before.before.before.before.before.before.before.before.before.before.before.if1.false c.before.before.before.before.before.before.do-plain.ensures)
+same-length-2 c = search rules
 
 -- src/lib.rt:411:1
 returns-2 : tie.Need-returns-2
-returns-2 c = rw c.cover.ensures (stepped_some c.before.before.before.before.before.before.before.before.before.before.before.before.before.before.before.advance-data.ensures c.before.before.before.before.before.before.before.before.before.before.before.if1.false c.before.before.before.before.before.before.do-plain.ensures)
+returns-2 c = stepped_some c.before.before.before.before.before.before.before.before.before.before.before.before.before.before.advance-data.ensures c.before.before.before.before.before.before.before.before.before.before.if1.false c.before.before.before.before.before.do-plain.ensures
 
 pub advance-both-spec : {M : Type 1} → statement M
 advance-both-spec =
@@ -48,7 +48,6 @@ advance-both-spec =
     returns
     sub-do-plain
     do-plain-requires
-    add-t21
-    (λ c κs. search rules)
+    add-t18
     same-length-2
     returns-2)

@@ -1,7 +1,7 @@
 use Rattle.units.proofs.Advances.{going_start, going_on, plain_early, plain_spent, advanced_length, advanced_most}
 use Rattle.units.specs.Turns.{Going}
 use Rattle.model.specs.Steps.{machine}
-use Rattle.std.proofs.Common.{◌-◌, ◌∙◌, arith, rules}
+use Rattle.std.proofs.Common.{◌-◌, ◌∙◌, arith}
 use Rattle.units.proofs.do_plain.Statement.{statement}
 use Rattle.units.proofs.do_plain.Tie as tie
 use Rattle.units.proofs.do_plain.Reads as reads
@@ -9,10 +9,10 @@ use Rattle.units.proofs.do_plain.Lts as lts
 use Rattle.units.proofs.advance.Reads as advance-reads
 
 abbrev invariant-loop : tie.invariant-loop
-invariant-loop write ring table₀ frame₀ budget d₀ used₀ covered₀ table frame d used covered = Going ring write (machine d₀ table₀ frame₀) (machine d table frame) budget used covered
+invariant-loop write ring table₀ frame₀ budget d₀ used₀ table frame d used = Going ring write (machine d₀ table₀ frame₀) (machine d table frame) budget used
 
 abbrev decreases-loop : tie.decreases-loop
-decreases-loop write ring table₀ frame₀ budget d₀ used₀ covered₀ table frame d used covered = budget - used
+decreases-loop write ring table₀ frame₀ budget d₀ used₀ table frame d used = budget - used
 
 -- src/lib.rt:378:5
 loop-holds : tie.Need-loop-init invariant-loop decreases-loop
@@ -40,11 +40,11 @@ add-used c = omega (arith, advanced_most c.before.before.before.before.before.be
 
 -- src/lib.rt:378:5
 loop-less : tie.Need-loop-smaller invariant-loop decreases-loop
-loop-less c = omega (arith, advanced_most c.before.before.before.before.before.before.before.advance.ensures, c.before.before.before.if1.false)
+loop-less c = omega (arith, advanced_most c.before.before.before.before.before.before.advance.ensures, c.before.before.if1.false)
 
 -- src/lib.rt:378:5
 loop-again : tie.Need-loop-preserved invariant-loop decreases-loop
-loop-again c = rw c.cover.ensures (going_on c.before.before.before.before.before.before.before.before.before.before.before.loop.invariant c.before.before.before.before.before.before.before.advance.ensures c.before.before.before.if1.false)
+loop-again c = going_on c.before.before.before.before.before.before.before.before.before.before.loop.invariant c.before.before.before.before.before.before.advance.ensures c.before.before.if1.false
 
 -- src/lib.rt:365:1
 same-length-2 : tie.Need-same-length-2 invariant-loop decreases-loop
@@ -66,7 +66,6 @@ do-plain-spec =
     same_length
     returns
     add-used
-    (λ c κs. search rules)
     loop-less
     loop-again
     same-length-2

@@ -20,8 +20,8 @@ go-on-requires : tie.Need-go-on-requires
 go-on-requires c κs = plain_restart c.before.before.before.before.before.before.do-plain.ensures
 
 -- src/lib.rt:479:15
-add-t19 : tie.Need-overflow-add-t19
-add-t19 c = omega (arith, c.before.before.before.before.before.before.before.before.before.before.before.before.do-plain.ensures.going.most, finished_most c.before.before.before.before.before.go_on.ensures, c.before.before.before.before.before.before.before.before.before.before.before.before.before.before.before.before.before.ranges.budget)
+add-t17 : tie.Need-overflow-add-t17
+add-t17 c = omega (arith, c.before.before.before.before.before.before.before.before.before.before.before.before.do-plain.ensures.going.most, finished_most c.before.before.before.before.before.go_on.ensures, c.before.before.before.before.before.before.before.before.before.before.before.before.before.before.before.before.before.ranges.budget)
 
 -- src/lib.rt:462:1
 same_length : tie.Need-same-length
@@ -29,8 +29,8 @@ same_length c = search rules
 
 -- src/lib.rt:462:1
 returns : tie.Need-returns
-returns c = rw c.cover.ensures (finished_then c.before.before.before.before.before.before.before.before.before.before.before.before.before.do-plain.ensures.going c.before.before.before.before.before.before.go_on.ensures)
+returns c = finished_then c.before.before.before.before.before.before.before.before.before.before.before.before.do-plain.ensures.going c.before.before.before.before.before.go_on.ensures
 
 pub do-units-spec : {M : Type 1} → statement M
 do-units-spec =
-    tie.close (tie.spec do-plain-requires sub-go-on go-on-requires add-t19 (λ c κs. search rules) same_length returns)
+    tie.close (tie.spec do-plain-requires sub-go-on go-on-requires add-t17 same_length returns)

@@ -1,4 +1,4 @@
-use Rattle.std.proofs.Common.{◌≡◌, ◌+◌, ◌-◌, length, refl, ap, ◌∙◌, arith, rules}
+use Rattle.std.proofs.Common.{◌≡◌, ◌+◌, ◌-◌, length, ap, ◌∙◌, arith, rules}
 use Rattle.units.proofs.Feeds.{fit_deep, band_fed, band_part, pixels_most_lem}
 use Rattle.laws.specs.WellFormed.{length_host}
 use Rattle.laws.specs.Order.{order_add, order_length}
@@ -86,7 +86,7 @@ unfolding fed_word
 returns c =
     let s = c.before.before.before.before.before.before.before.before.before.before.span.ensures in
     let n : c.before.before.before.before.before.before.before.before.before.row-rest.result + (c.before.before.before.before.before.before.before.before.before.before.span.result - c.before.before.before.before.before.before.before.before.before.row-rest.result) ≡ c.before.before.before.before.before.before.before.before.before.before.span.result = omega (arith, c.before.before.before.before.before.before.before.before.before.row-rest.ensures) in
-    record { some = s.0; most = s.1; within = s.2; feeding = s.3; core_is = c.fed.ensures; gives_none = refl; frame_is = c.before.before.before.draw2.ensures ∙ rw c.before.before.before.before.before.before.before.draw.ensures (order_add _ c.before.before.before.before.before.before.before.before.before.row-rest.result c.before.before.before.before.before.before.before.before.before.before.before.before.before.before.before.before.args.k (c.before.before.before.before.before.before.before.before.before.before.span.result - c.before.before.before.before.before.before.before.before.before.row-rest.result) _ ∙ rw n) }
+    record { some = s.0; most = s.1; within = s.2; feeding = s.3; core_is = c.fed.ensures; frame_is = c.before.before.before.draw2.ensures ∙ rw c.before.before.before.before.before.before.before.draw.ensures (order_add _ c.before.before.before.before.before.before.before.before.before.row-rest.result c.before.before.before.before.before.before.before.before.before.before.before.before.before.before.before.before.args.k (c.before.before.before.before.before.before.before.before.before.before.span.result - c.before.before.before.before.before.before.before.before.before.row-rest.result) _ ∙ rw n) }
 
 pub feed-pixels-spec : {M : Type 1} → statement M
 feed-pixels-spec =

@@ -1,7 +1,7 @@
 use Rattle.units.proofs.Advances.{stepped_length, stepped_most, stepped_on, finished_early, finished}
 use Rattle.units.specs.Turns.{Plain}
 use Rattle.model.specs.Steps.{machine}
-use Rattle.std.proofs.Common.{◌-◌, ◌∙◌, arith, rules}
+use Rattle.std.proofs.Common.{◌-◌, ◌∙◌, arith}
 use Rattle.units.proofs.go_on.Statement.{statement}
 use Rattle.units.proofs.go_on.Tie as tie
 use Rattle.units.proofs.go_on.Reads as reads
@@ -9,10 +9,10 @@ use Rattle.units.proofs.go_on.Lts as lts
 use Rattle.units.proofs.advance_both.Reads as advance-both-reads
 
 abbrev invariant-loop : tie.invariant-loop
-invariant-loop write ring table₀ frame₀ budget d₀ used₀ covered₀ table frame d used covered = Plain ring write (machine d₀ table₀ frame₀) (machine d table frame) budget used covered
+invariant-loop write ring table₀ frame₀ budget d₀ used₀ table frame d used = Plain ring write (machine d₀ table₀ frame₀) (machine d table frame) budget used
 
 abbrev decreases-loop : tie.decreases-loop
-decreases-loop write ring table₀ frame₀ budget d₀ used₀ covered₀ table frame d used covered = budget - used
+decreases-loop write ring table₀ frame₀ budget d₀ used₀ table frame d used = budget - used
 
 -- src/lib.rt:449:5
 loop-holds : tie.Need-loop-init invariant-loop decreases-loop
@@ -40,11 +40,11 @@ add-used c = omega (arith, stepped_most c.before.before.before.before.before.bef
 
 -- src/lib.rt:449:5
 loop-less : tie.Need-loop-smaller invariant-loop decreases-loop
-loop-less c = omega (arith, stepped_most c.before.before.before.before.before.before.before.advance-both.ensures, c.before.before.before.if1.false)
+loop-less c = omega (arith, stepped_most c.before.before.before.before.before.before.advance-both.ensures, c.before.before.if1.false)
 
 -- src/lib.rt:449:5
 loop-again : tie.Need-loop-preserved invariant-loop decreases-loop
-loop-again c = rw c.cover.ensures (stepped_on c.before.before.before.before.before.before.before.before.before.before.before.loop.invariant c.before.before.before.before.before.before.before.advance-both.ensures c.before.before.before.if1.false)
+loop-again c = stepped_on c.before.before.before.before.before.before.before.before.before.before.loop.invariant c.before.before.before.before.before.before.advance-both.ensures c.before.before.if1.false
 
 -- src/lib.rt:436:1
 same-length-2 : tie.Need-same-length-2 invariant-loop decreases-loop
@@ -66,7 +66,6 @@ go-on-spec =
     same_length
     returns
     add-used
-    (λ c κs. search rules)
     loop-less
     loop-again
     same-length-2

@@ -1,9 +1,7 @@
-use Rattle.std.proofs.Common.{ap, subst, rules}
+use Rattle.std.proofs.Common.{◌∙◌, subst, rules}
 use Rattle.model.specs.declared.Drawn.{Drawn}
-use Rattle.laws.specs.Covers.{nothing_none}
-use Rattle.judging.specs.declared.Judged.{Judged}
 use Rattle.units.specs.Turns.{Loadable}
-use Rattle.units.proofs.Loads.{load_nothing, load_refuses, load_draws, load_gives}
+use Rattle.units.proofs.Loads.{load_nothing, load_refuses, load_draws}
 use Rattle.units.proofs.load.Statement.{statement}
 use Rattle.units.proofs.load.Tie as tie
 
@@ -22,8 +20,8 @@ moved-requires c κs = search rules
 enum-known-drawn : tie.Need-enum-known-drawn
 enum-known-drawn c = search rules
 
-judge-requires : tie.Need-judge-requires
-judge-requires c κs = search rules
+refusal-requires : tie.Need-refusal-requires
+refusal-requires c κs = search rules
 
 halt-requires : tie.Need-halt-requires
 halt-requires c κs = search rules
@@ -32,8 +30,7 @@ returns : tie.Need-returns
 returns c =
     let h = subst (λ (d : Drawn). Loadable c.before.before.before.before.before.before.before.before.before.args.ring.now c.before.before.before.before.before.before.before.before.before.args.c c.before.before.before.before.before.before.before.before.before.args.header d c.before.before.before.before.before.before.before.before.before.args.next) c.before.before.before.before.drawn.given.1 c.before.before.before.before.before.before.before.before.before.requires in
     let l = rw c.before.before.before.before.before.before.before.before.before.requires.header_is at c.before.before.before.before.before.before.load.ensures in
-    let r = load_refuses _ _ l h (ap (λ (j : Judged). j.number) c.before.before.judge.ensures) c.before.if1.true in
-    rw (c.halt.ensures, r.0, r.1)
+    c.halt.ensures ∙ load_refuses _ _ l h c.before.before.refusal.ensures c.before.if1.true
 
 first-place-requires : tie.Need-first-place-requires
 first-place-requires c κs = search rules
@@ -45,14 +42,13 @@ returns-2 : tie.Need-returns-2
 returns-2 c =
     let h = subst (λ (d : Drawn). Loadable c.before.before.before.before.before.before.before.args.ring.now c.before.before.before.before.before.before.before.args.c c.before.before.before.before.before.before.before.args.header d c.before.before.before.before.before.before.before.args.next) c.before.before.enum_told.given.1 c.before.before.before.before.before.before.before.requires in
     let l = rw c.before.before.before.before.before.before.before.requires.header_is at c.before.before.before.before.load.ensures in
-    rw (c.moved.ensures, c.before.retire.ensures, load_nothing _ _ l h, nothing_none c.before.before.before.before.before.before.before.args.ring.now c.before.before.before.before.before.before.before.args.c h.drawn_is)
+    c.moved.ensures ∙ rw c.before.retire.ensures (load_nothing _ _ l h)
 
 returns-3 : tie.Need-returns-3
 returns-3 c =
     let h = subst (λ (d : Drawn). Loadable c.before.before.before.before.before.before.before.before.before.before.args.ring.now c.before.before.before.before.before.before.before.before.before.before.args.c c.before.before.before.before.before.before.before.before.before.before.args.header d c.before.before.before.before.before.before.before.before.before.before.args.next) c.before.before.before.before.before.drawn.given.1 c.before.before.before.before.before.before.before.before.before.before.requires in
     let l = rw c.before.before.before.before.before.before.before.before.before.before.requires.header_is at c.before.before.before.before.before.before.before.load.ensures in
-    let n = ap (λ (j : Judged). j.number) c.before.before.before.judge.ensures in
-    rw (c.moved2.ensures, load_draws _ _ l h n c.before.before.if1.false c.before.first-place.ensures, load_gives _ _ l h n c.before.before.if1.false (ap (λ (j : Judged). j.covered) c.before.before.before.judge.ensures))
+    c.moved2.ensures ∙ load_draws _ _ l h c.before.before.before.refusal.ensures c.before.before.if1.false c.before.first-place.ensures
 
 pub load_spec : {M : Type 1} → statement M
 load_spec =
@@ -63,7 +59,7 @@ load_spec =
     retire-requires
     moved-requires
     enum-known-drawn
-    judge-requires
+    refusal-requires
     halt-requires
     returns
     first-place-requires

@@ -1,8 +1,8 @@
 use Rattle.units.proofs.Loads.{refuses, table_refused, table_stays}
-use Rattle.units.specs.Turns.{command_turn, command_table}
+use Rattle.units.specs.Turns.{command_turn, command_table, turn}
 use Rattle.laws.specs.Fit.{accepted_wanted}
-use Rattle.laws.specs.Covers.{nothing_none, refused_none}
 use Rattle.model.specs.declared.Kind.{Kind}
+use Rattle.model.specs.declared.Core.{Core}
 use Rattle.model.specs.Unit.{wants}
 use Rattle.model.specs.Command.{is_data, count_word}
 use Rattle.model.specs.Lookup.{data_count}
@@ -103,21 +103,21 @@ returns-2 : tie.Need-returns-2
 unfolding command_turn command_table
 returns-2 c =
     let s = look_at c.before.before.before.before.before.before.before.before.args.ring.now c.before.before.before.before.before.before.before.before.args.c c.before.before.before.before.before.before.before.before.args.write (Refused _) (sym c.before.before.seen.given.1 ∙ (c.before.before.before.before.look.ensures ∙ rw c.before.before.before.before.before.table-word.ensures (look_idle c.before.before.before.before.before.before.before.before.args.ring.now c.before.before.before.before.before.before.before.before.args.c c.before.before.before.before.before.before.before.before.args.write c.before.before.before.before.before.before.before.before.requires.1))) in
-    (rw (s.0, c.halt.ensures, refuses _ _ s.1 (λ z. omega (arith, s.2)), refused_none c.before.before.before.before.before.before.before.before.args.ring.now c.before.before.before.before.before.before.before.before.args.c (λ z. omega (arith, s.1, s.2))), rw s.0 (table_refused _ _ s.1 (λ z. omega (arith, s.2)) _))
+    (rw s.0 (ap (λ (d : Core). turn d 1) (c.halt.ensures ∙ refuses _ _ s.1 (λ z. omega (arith, s.2)))), rw s.0 (table_refused _ _ s.1 (λ z. omega (arith, s.2)) _))
 
 -- src/lib.rt:230:1
 returns-3 : tie.Need-returns-3
 unfolding command_turn command_table
 returns-3 c =
     let s = look_at c.before.before.before.before.before.before.before.before.args.ring.now c.before.before.before.before.before.before.before.before.args.c c.before.before.before.before.before.before.before.before.args.write (Whole _ _) (sym c.before.before.seen2.given.1 ∙ (c.before.before.before.before.look.ensures ∙ rw c.before.before.before.before.before.table-word.ensures (look_idle c.before.before.before.before.before.before.before.before.args.ring.now c.before.before.before.before.before.before.before.before.args.c c.before.before.before.before.before.before.before.before.args.write c.before.before.before.before.before.before.before.before.requires.1))) in
-    (rw s.is_ready_holds c.load.ensures, rw s.is_ready_holds (table_stays _ _ (plain_table _ _ s.no_table_holds) _))
+    (rw s.is_ready_holds (ap (λ (d : Core). turn d 1) c.load.ensures), rw s.is_ready_holds (table_stays _ _ (plain_table _ _ s.no_table_holds) _))
 
 -- src/lib.rt:230:1
 returns-4 : tie.Need-returns-4
 unfolding command_turn command_table
 returns-4 c =
     let s = look_at c.before.before.before.before.before.before.before.before.before.args.ring.now c.before.before.before.before.before.before.before.before.before.args.c c.before.before.before.before.before.before.before.before.before.args.write (Table _ _) (sym c.before.before.before.seen3.given.1 ∙ (c.before.before.before.before.before.look.ensures ∙ rw c.before.before.before.before.before.before.table-word.ensures (look_idle c.before.before.before.before.before.before.before.before.before.args.ring.now c.before.before.before.before.before.before.before.before.before.args.c c.before.before.before.before.before.before.before.before.before.args.write c.before.before.before.before.before.before.before.before.before.requires.1))) in
-    (rw (s.is_ready_holds, c.fill.ensures.0, nothing_none c.before.before.before.before.before.before.before.before.before.args.ring.now c.before.before.before.before.before.before.before.before.before.args.c s.drawn_is), rw s.is_ready_holds c.fill.ensures.1)
+    (rw s.is_ready_holds (ap (λ (d : Core). turn d 1) c.fill.ensures.0), rw s.is_ready_holds c.fill.ensures.1)
 
 -- src/lib.rt:230:1
 returns-5 : tie.Need-returns-5

@@ -1,8 +1,8 @@
 use Rattle.units.proofs.Feeds.{fit_deep}
-use Rattle.units.proofs.Loads.{refuses, data_none}
-use Rattle.units.specs.Turns.{command_turn}
+use Rattle.units.proofs.Loads.{refuses}
+use Rattle.units.specs.Turns.{command_turn, turn}
 use Rattle.laws.specs.Fit.{wanting_fit, wanting_is, accepted_header}
-use Rattle.laws.specs.Covers.{refused_none}
+use Rattle.model.specs.declared.Core.{Core}
 use Rattle.model.specs.Unit.{pixels_drawn}
 use Rattle.model.specs.Command.{is_data}
 use Rattle.model.specs.Choice.{not_both}
@@ -84,14 +84,14 @@ returns-2 : tie.Need-returns-2
 unfolding command_turn
 returns-2 c =
     let s = look_at c.before.before.before.before.before.before.before.before.args.ring.now c.before.before.before.before.before.before.before.before.args.c c.before.before.before.before.before.before.before.before.args.write (Refused _) (sym c.before.before.seen.given.1 ∙ (c.before.before.before.before.look-for-data.ensures ∙ rw (c.before.before.before.before.before.count_word.ensures, c.before.before.before.before.before.before.before.before.requires.2))) in
-    rw (s.0, c.halt.ensures, refuses _ _ s.1 (λ z. omega (arith, s.2)), refused_none c.before.before.before.before.before.before.before.before.args.ring.now c.before.before.before.before.before.before.before.before.args.c (λ z. omega (arith, s.1, s.2)))
+    rw s.0 (ap (λ (d : Core). turn d 1) (c.halt.ensures ∙ refuses _ _ s.1 (λ z. omega (arith, s.2))))
 
 -- src/lib.rt:259:1
 returns-3 : tie.Need-returns-3
 unfolding command_turn
 returns-3 c =
     let s = look_at c.before.before.before.before.before.before.before.before.args.ring.now c.before.before.before.before.before.before.before.before.args.c c.before.before.before.before.before.before.before.before.args.write (Data _ _) (sym c.before.before.seen2.given.1 ∙ (c.before.before.before.before.look-for-data.ensures ∙ rw (c.before.before.before.before.before.count_word.ensures, c.before.before.before.before.before.before.before.before.requires.2))) in
-    rw (s.is_ready_holds, c.accept.ensures, data_none c.before.before.before.before.before.before.before.before.args.ring.now c.before.before.before.before.before.before.before.before.args.c s.kind_is)
+    rw s.is_ready_holds (ap (λ (d : Core). turn d 1) c.accept.ensures)
 
 -- src/lib.rt:259:1
 returns-4 : tie.Need-returns-4

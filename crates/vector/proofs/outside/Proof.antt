@@ -1,4 +1,4 @@
--- By the last pixel where that is enough, else by the walk.
+-- By the last pixel where that is enough, else by the extent.
 use Prim.Native.Nat.{◌-◌}
 use mathlib.Core.Path.{sym, ◌∙◌}
 use native.Mathlib.Omega.{arith}
@@ -24,10 +24,10 @@ returns c =
     sym (is_near a.framelength a.v (a.v.length - 1) c.before.before.before.before.before.requires c.before.before.before.position-of.ensures (omega (arith, c.before.before.before.before.before.requires.long)) (omega arith) (omega arith))
 
 returns-2 : tie.Need-returns-2
-returns-2 c = extent_tells _ _ (sym c.enum_told.given.1 ∙ c.before.before.walk.ensures)
+returns-2 c = extent_tells _ _ (sym c.enum_told.given.1 ∙ c.before.before.extent.ensures)
 
 returns-3 : tie.Need-returns-3
-returns-3 c = extent_tells _ _ (sym c.enum-told2.given.1 ∙ c.before.before.walk.ensures)
+returns-3 c = extent_tells _ _ (sym c.enum-told2.given.1 ∙ c.before.before.extent.ensures)
 
 pub outside-spec : {M : Type 1} → statement M
 outside-spec =
