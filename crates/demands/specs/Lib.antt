@@ -3,7 +3,6 @@ pub mod Table
 pub mod Courses
 pub mod Demand1
 pub mod Demand2
-pub mod Runs
 pub mod Lasting
 pub mod Arrival
 pub mod Progress

@@ -2,7 +2,7 @@
 -- an axial one lowers the error by the axial term less the diagonal one. Once a step of each kind is taken the error lies from the
 -- diagonal term to below the axial term: that tells how many of the first k steps are diagonal.
 use Prim.Native.Nat.{ℕ, zero, suc, ◌+◌, ◌-◌, ◌*◌, ◌/◌, ◌≤◌, ◌<◌}
-use Rattle.std.specs.Prelude.{◌≡◌, Bool, cond, ◌⊎◌, ltb, ℤ, pos, negsuc, ◌+ℤ◌}
+use Rattle.std.specs.Prelude.{◌≡◌, Bool, cond, ◌⊎◌, ltb, ℤ, pos, negsuc, ◌+ℤ◌, if◌then◌else◌}
 use Rattle.std.proofs.Math.Path.{refl, ap}
 use Rattle.std.proofs.Common.{sym, ◌∙◌, inr, ⊎_elim, arith, add-one, mul-le-mul, lt_of_mul-lt-mul_right}
 use Rattle.std.proofs.Math.Bool.{true, false}
@@ -11,7 +11,7 @@ use Rattle.std.proofs.Math.Nat.{div-eq_of_lt-le}
 use Rattle.std.proofs.Math.IntN.{sub_ℕ, +ℤ_assoc, +ℤ_comm}
 use Rattle.std.specs.Int.Signed.{lt_z}
 use borrow.Author.Tests.{ltb-true, ltb-false, le-ltb}
-use Rattle.model.specs.Choice.{◌<?◌, if◌then◌else◌}
+use Rattle.model.specs.Choice.{◌<?◌}
 use Rattle.model.specs.Limits.{side_most}
 use Rattle.model.specs.VectorPixel.{major_step, minor_step, moved, axial_step, diagonal_step, step, position}
 use Rattle.model.specs.declared.Vector.{Vector}

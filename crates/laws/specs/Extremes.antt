@@ -5,7 +5,8 @@ use Rattle.std.specs.Prelude.{◌≡◌, refl, Bool, true, false}
 use Rattle.std.proofs.Common.{ap, subst, ⊎_elim, mul-le-mul_right, add-le-add, zero-mul, mod-lt, add-mul, ltb-true, ltb-false, lt-ltb, le-ltb, le-leb}
 use native.Mathlib.Omega.{arith}
 use Rattle.std.proofs.lemmas.Bool.{lt-leb}
-use Rattle.model.specs.Choice.{◌<?◌, true_or_false, not_both, or_left, or_right}
+use Rattle.model.specs.Choice.{◌<?◌}
+use Rattle.model.proofs.Choice.{true_or_false, not_both, or_left, or_right}
 use Rattle.model.specs.Limits.{frame_most, side_most}
 use Rattle.model.specs.Bounds.{added, taken, byte_outside, outside, first_byte, extent}
 use Rattle.model.specs.Rectangle.{ahead, behind, plus_at, minus_at, pixel_byte, named_byte, pixels_of, plus, minus, rectangle_outside, rectangle_extent}

@@ -1,15 +1,18 @@
 -- What a fit state gives, and that every unit and every accepted call leaves a fit state.
 use Prim.Native.Nat.{ℕ, ◌+◌, ◌-◌, ◌≤◌, ◌<◌}
-use Rattle.std.specs.Prelude.{◌≡◌, Bool, ◌&&◌, ◌||◌, List}
+use Rattle.std.specs.Prelude.{◌≡◌, Bool, ◌&&◌, ◌||◌, List, if◌then◌else◌}
 use Rattle.std.proofs.Math.Path.{refl}
 use Rattle.std.proofs.Common.{ap, subst, arith, mod-lt, mul-pos}
 use Rattle.std.proofs.Math.Bool.{true, false, not}
 use borrow.Author.Tests.{leb-true, leb-false, le-leb, lt-leb, ltb-false, lt-ltb, le-ltb, eqb-true, eq-eqb, ne_eqb, not-false}
-use Rattle.model.specs.Choice.{◌<?◌, ◌≤?◌, ◌=?◌, if◌then◌else◌, not_both, neither, or_right, nonzero, if_both}
-use Rattle.model.specs.Refusals.{first, NoRule, Each, NoTest, order, rising, positive, rising_positive, exactly, none_first, first_each, first_append, any_none, none_any}
+use Rattle.model.specs.Choice.{◌<?◌, ◌≤?◌, ◌=?◌}
+use Rattle.model.proofs.Choice.{not_both, neither, or_right, nonzero, if_both}
+use Rattle.model.specs.Refusals.{first, NoRule, Each, NoTest, order, rising, positive}
+use Rattle.model.proofs.Refusals.{rising_positive, exactly, none_first, first_each, first_append, any_none, none_any}
 use Rattle.model.specs.Registers.{width, height, vector_length}
 use Rattle.model.specs.Limits.{ring_least, ring_most, frame_most, count_most}
-use Rattle.model.specs.Ring.{distance, waiting, distance_lt}
+use Rattle.model.specs.Ring.{distance, waiting}
+use Rattle.model.proofs.Ring.{distance_lt}
 use Rattle.model.specs.Bits.{field}
 use Rattle.model.specs.Lookup.{data_type, data_count}
 use Rattle.model.specs.Command.{kind_of, is_data, command_length, data_length, bad_return, bad_data_count, bad_data_word, bad_data, drawn_by, whole_words, read_after}
@@ -18,7 +21,8 @@ use Rattle.model.specs.Judging.{judge, judge_rules, row25}
 use Rattle.model.specs.BltPixel.{blt_of, rectangle_of}
 use Rattle.model.specs.VectorPixel.{vector_of}
 use Rattle.model.specs.Unit.{Machine, wants, pixels_drawn, header_at, counted_at, loaded_at, length_at, returns_at, rules_at, header_refusal, drawn_rules, command_rules, command_refusal, needed, ready, stopped, place_after, loaded_core, feed_at, taken_core, drawn_core, fed_core, pixel_count, unit, possible}
-use Rattle.model.specs.Steps.{Step, loads, takes, refuses, draws, feeds, step_of}
+use Rattle.model.specs.Steps.{Step, loads, takes, refuses, draws, feeds}
+use Rattle.model.proofs.Steps.{step_of}
 use Rattle.model.specs.Calls.{bad_ring, bad_frame, bad_stop, place_tests, unfit_tests, unfit, setup_rules, fresh_state, restarted}
 use Rattle.model.specs.declared.Core.{Core}
 use Rattle.model.specs.declared.State.{State}

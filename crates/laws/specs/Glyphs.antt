@@ -1,9 +1,11 @@
 -- Rows of a BLT with a solid pattern and a mono source: each pixel's new value is a blend of its old one, by its bit, and
 -- up to eight pixels go by a window of bits that is read once.
-use Rattle.std.specs.Prelude.{ℕ, ◌+◌, ◌-◌, ◌*◌, ◌/◌, ◌%◌, ◌^◌, ◌≤◌, ◌<◌, ◌≡◌, refl, Bool, true, false, List, ◌⊎◌}
+use Rattle.std.specs.Prelude.{ℕ, ◌+◌, ◌-◌, ◌*◌, ◌/◌, ◌%◌, ◌^◌, ◌≤◌, ◌<◌, ◌≡◌, refl, Bool, true, false, List, ◌⊎◌, if◌then◌else◌}
 use Rattle.std.proofs.Common.{sym, ap, ◌∙◌, inl, inr, ⊎_elim, arith, add-mul, mul-le-mul_right}
-use Rattle.model.specs.Bits.{bit, bit_cases}
-use Rattle.model.specs.Choice.{◌=?◌, if◌then◌else◌, true_or_false}
+use Rattle.model.specs.Bits.{bit}
+use Rattle.model.proofs.Bits.{bit_cases}
+use Rattle.model.specs.Choice.{◌=?◌}
+use Rattle.model.proofs.Choice.{true_or_false}
 use Rattle.model.specs.Formats.{Depth}
 use Rattle.model.specs.Pixel.{read_pixel, store_pixel}
 use Rattle.model.specs.Rectangle.{pixel_byte}

@@ -1,16 +1,17 @@
 -- Host sources: in the order of a BLT's pixels the bytes and words that hold them rise.
 use Prim.Native.Nat.{ℕ, zero, suc, ◌+◌, ◌-◌, ◌*◌, ◌/◌, ◌%◌, ◌≤◌, ◌<◌}
-use Rattle.std.specs.Prelude.{◌≡◌, Bool, true, false, ◌⊎◌, List}
+use Rattle.std.specs.Prelude.{◌≡◌, Bool, true, false, List, if◌then◌else◌}
 use Rattle.std.proofs.Math.Path.{refl}
-use Rattle.std.proofs.Common.{sym, ap, ◌∙◌, inl, inr, mod-lt, suc-mul, mul-le-mul, div-add-mod', ltb-true, ltb-false}
+use Rattle.std.proofs.Common.{◌∙◌, mod-lt, suc-mul, mul-le-mul, div-add-mod', ltb-true, ltb-false}
 use Rattle.std.proofs.Math.Logic.{⊎_elim}
 use native.Mathlib.Omega.{arith}
 use Rattle.std.proofs.Math.Nat.{add-mul, mul-le-mul_right, div-mul-le_self}
-use Rattle.model.specs.Choice.{◌<?◌, ◌=?◌, if◌then◌else◌, if_both}
+use Rattle.model.specs.Choice.{◌<?◌, ◌=?◌}
+use Rattle.model.proofs.Choice.{if_both}
 use Rattle.model.specs.Registers.{format_code, width, source_mode}
 use Rattle.model.specs.Formats.{Depth, format_of, depth_of}
 use Rattle.model.specs.BltPixel.{mono_mode, blt_of, rectangle_of}
-use Rattle.model.specs.Host.{row_bytes, starting_byte, starting_bit, bits_per_pixel, host_stride, host_of, host_byte, host_pixel, host_word}
+use Rattle.model.specs.Host.{row_bytes, starting_bit, bits_per_pixel, host_stride, host_of, host_byte, host_pixel, host_word}
 use Rattle.model.specs.declared.Host.{Host}
 use Rattle.laws.specs.Pixels.{depth_least, depth_most}
 use Rattle.laws.specs.Numbers.{less_or_not, column_add, row_add, column_next, row_next}

@@ -5,7 +5,8 @@ use Rattle.std.proofs.Common.{sym, ◌∙◌, mod-lt, mul_assoc, mul_comm, mul-o
 use Rattle.std.proofs.Math.Logic.{⊎_elim}
 use native.Mathlib.Omega.{arith}
 use Rattle.std.proofs.Math.Nat.{add-mul, zero-mul, zero-mod, zero-div}
-use Rattle.model.specs.Choice.{◌=?◌, neither, or_right}
+use Rattle.model.specs.Choice.{◌=?◌}
+use Rattle.model.proofs.Choice.{neither, or_right}
 use Rattle.model.specs.Registers.{width, pattern_inversion, pattern_mode, source_mode, source_select, format_code}
 use Rattle.model.specs.Formats.{format_of, depth_of}
 use Rattle.model.specs.BltPixel.{mono_mode, blt_of, rectangle_of}

@@ -1,8 +1,7 @@
 -- n pixels of one row of a rectangle, by their places from the lowest byte up: with X negative the last column lies lowest.
-use Rattle.std.specs.Prelude.{ℕ, suc, ◌+◌, ◌-◌, ◌*◌, ◌^◌, ◌≤◌, ◌<◌, ◌≡◌, refl, Bool, true, false}
+use Rattle.std.specs.Prelude.{ℕ, suc, ◌+◌, ◌-◌, ◌*◌, ◌^◌, ◌≤◌, ◌<◌, ◌≡◌, refl, Bool, true, false, if◌then◌else◌}
 use Rattle.std.proofs.Common.{sym, arith, suc-mul}
 use Rattle.model.specs.Limits.{frame_most}
-use Rattle.model.specs.Choice.{if◌then◌else◌}
 use Rattle.model.specs.Bounds.{added, taken}
 use Rattle.model.specs.Rectangle.{ahead, behind, pixel_byte}
 use Rattle.model.specs.declared.Blt.{Blt}

@@ -1,7 +1,7 @@
 -- A copy: raster operation CCh gives the source, so a row whose source lies in frame memory is one move of bytes, where no byte of
 -- the source is met after it was overwritten. Everything is over the byte count.
 use Prim.Native.Nat.{ℕ, zero, suc, ◌+◌, ◌-◌, ◌*◌, ◌/◌, ◌%◌, ◌^◌, ◌≤◌, ◌<◌}
-use Rattle.std.specs.Prelude.{◌≡◌, Bool, not, List, ◌++◌, ◌⊎◌, length, set, take, drop}
+use Rattle.std.specs.Prelude.{◌≡◌, Bool, not, List, ◌++◌, ◌⊎◌, length, set, take, drop, if◌then◌else◌}
 use Rattle.std.proofs.Math.Path.{refl}
 use Rattle.std.proofs.Common.{sym, ap, ◌∙◌, ⊎_elim, zero-mul, add-one, length-drop, get_or-set_same, get_or-set_other, get_or-drop, ext_get_or}
 use Rattle.std.proofs.Math.Bool.{true, false}
@@ -11,9 +11,11 @@ use Rattle.std.proofs.Math.Nat.{suc-mul, mul-le-mul_right}
 use Rattle.std.proofs.Math.ListN.{get_or, length-set}
 use Rattle.std.proofs.Math.Seq.{paste-zero, paste-suc}
 use Rattle.model.specs.Limits.{side_most}
-use Rattle.model.specs.Choice.{◌=?◌, if◌then◌else◌, not_both}
+use Rattle.model.specs.Choice.{◌=?◌}
+use Rattle.model.proofs.Choice.{not_both}
 use Rattle.model.specs.Pixel.{read_pixel, store_pixel}
-use Rattle.model.specs.Raster.{raster, raster_source}
+use Rattle.model.specs.Raster.{raster}
+use Rattle.model.proofs.Raster.{raster_source}
 use Rattle.model.specs.Rectangle.{pixel_byte}
 use Rattle.model.specs.Operands.{draw_operands}
 use Rattle.model.specs.BltPixel.{source_value, mono_bit, with_pattern, with_source, operands_at, draw_at}

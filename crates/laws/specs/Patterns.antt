@@ -1,9 +1,9 @@
 -- The mono pattern's bit in its word, by one shift.
-use Rattle.std.specs.Prelude.{ℕ, ◌+◌, ◌-◌, ◌*◌, ◌/◌, ◌%◌, ◌^◌, ◌≤◌, ◌<◌, ◌≡◌}
+use Rattle.std.specs.Prelude.{ℕ, ◌+◌, ◌-◌, ◌*◌, ◌/◌, ◌%◌, ◌^◌, ◌≤◌, ◌<◌, ◌≡◌, if◌then◌else◌}
 use Rattle.std.proofs.Common.{ap, arith, mod-lt, lt-ltb, le-ltb, shr-shr}
 use Rattle.std.proofs.Math.Pow.{field as low_field, mod-mod-pow}
 use Rattle.model.specs.Bits.{bit, field}
-use Rattle.model.specs.Choice.{◌<?◌, if◌then◌else◌}
+use Rattle.model.specs.Choice.{◌<?◌}
 use Rattle.model.specs.Pattern.{pattern_byte, pattern_bit}
 use Rattle.laws.specs.Windows.{joined_bit}
 

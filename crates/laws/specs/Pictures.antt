@@ -1,15 +1,13 @@
 -- Pixels of a BLT with host source, by what its registers describe: one of them, a row, and a row that is copied out of the ring.
-use Rattle.std.specs.Prelude.{ℕ, zero, suc, ◌+◌, ◌-◌, ◌*◌, ◌/◌, ◌%◌, ◌^◌, ◌≤◌, ◌<◌, ◌≡◌, refl, Bool, true, false, List, [], ◌∷◌, length, get_or}
-use Rattle.std.proofs.Common.{sym, ap, ◌∙◌, arith, mod-lt, mod-eq_of_lt, suc-mul, add-mul, mul_assoc, mul_comm, mul-le-mul_right, shr-shr}
+use Rattle.std.specs.Prelude.{ℕ, zero, suc, ◌+◌, ◌-◌, ◌*◌, ◌/◌, ◌%◌, ◌^◌, ◌≤◌, ◌<◌, ◌≡◌, refl, Bool, true, false, List, [], ◌∷◌, length, get_or, if◌then◌else◌}
+use Rattle.std.proofs.Common.{sym, ap, ◌∙◌, arith, mod-lt, mod-eq_of_lt, suc-mul, add-mul, mul_assoc, mul_comm, shr-shr}
 use Rattle.std.proofs.Math.Nat.{mod-add-mod, zero-div}
 use Rattle.std.proofs.lemmas.Nat.{mod-pow-add}
-use Rattle.model.specs.Choice.{◌=?◌, if◌then◌else◌}
 use Rattle.model.specs.Bits.{bit}
 use Rattle.model.specs.Ring.{word_at}
 use Rattle.model.specs.Registers.{format_code}
 use Rattle.model.specs.Formats.{Depth, format_of, depth_of}
 use Rattle.model.specs.Pixel.{read_pixel, store_pixel}
-use Rattle.model.specs.Raster.{raster}
 use Rattle.model.specs.Rectangle.{pixel_byte, column_of, row_of}
 use Rattle.model.specs.Expansion.{bit_number, expand}
 use Rattle.model.specs.Operands.{draw_operands}

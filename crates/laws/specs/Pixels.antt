@@ -2,12 +2,14 @@
 use Rattle.std.specs.Prelude.{ℕ, zero, suc, ◌+◌, ◌-◌, ◌*◌, ◌/◌, ◌%◌, ◌^◌, ◌≤◌, ◌<◌, ◌≡◌, refl, ◌||◌, List, [], ◌∷◌, length, get_or, set}
 use Rattle.std.proofs.Common.{sym, ap, ◌∙◌, arith, mul-suc, add-suc, mod-lt, pow_pos, pow-add, length-set, get_or-set_same, get_or-set_other}
 use Rattle.std.proofs.Math.Arith.{mod-mul}
-use Rattle.model.specs.Bits.{low_split}
-use Rattle.model.specs.Choice.{◌=?◌, if_both}
+use Rattle.model.proofs.Bits.{low_split}
+use Rattle.model.specs.Choice.{◌=?◌}
+use Rattle.model.proofs.Choice.{if_both}
 use Rattle.model.specs.Formats.{Depth, format_of, depth_of}
 use Rattle.model.specs.declared.Format.{Format}
 use Rattle.model.specs.Pixel.{read_pixel, store_pixel}
-use Rattle.model.specs.Raster.{raster, raster_odd, raster_half}
+use Rattle.model.specs.Raster.{raster}
+use Rattle.model.proofs.Raster.{raster_odd, raster_half}
 
 -- bytes a pixel: 1, 2 or 4
 pub depth_last : {n : ℕ} → Depth n → (n ≡ 1 → ⊥) → (n ≡ 2 → ⊥) → n ≡ 4

@@ -1,13 +1,16 @@
 -- Rows of a BLT for which one value serves as the source of every pixel: each pixel's new value is a rule of its old one.
-use Rattle.std.specs.Prelude.{ℕ, ◌+◌, ◌-◌, ◌*◌, ◌/◌, ◌%◌, ◌^◌, ◌≤◌, ◌<◌, ◌≡◌, refl, Bool, true, false, not, ◌||◌, List, ◌⊎◌, length}
-use Rattle.std.proofs.Common.{sym, ◌∙◌, inl, inr, ⊎_elim, arith, mod-eq_of_lt, add-mul, div-mul-le_self, eqb-true}
+use Rattle.std.specs.Prelude.{ℕ, ◌+◌, ◌-◌, ◌*◌, ◌/◌, ◌%◌, ◌^◌, ◌≤◌, ◌<◌, ◌≡◌, refl, Bool, true, false, not, ◌||◌, List, ◌⊎◌, if◌then◌else◌}
+use Rattle.std.proofs.Common.{sym, ◌∙◌, inl, inr, ⊎_elim, arith, mod-eq_of_lt, eqb-true}
 use Rattle.std.proofs.Math.Path.{ap}
 use Rattle.std.proofs.Math.Nat.{mod-mod}
-use Rattle.model.specs.Bits.{bit, bit_cases}
-use Rattle.model.specs.Choice.{◌=?◌, if◌then◌else◌, not_both, either}
+use Rattle.model.specs.Bits.{bit}
+use Rattle.model.proofs.Bits.{bit_cases}
+use Rattle.model.specs.Choice.{◌=?◌}
+use Rattle.model.proofs.Choice.{not_both, either}
 use Rattle.model.specs.Formats.{Depth}
 use Rattle.model.specs.Pixel.{read_pixel, store_pixel}
-use Rattle.model.specs.Raster.{raster, raster_pattern, raster_pattern_xor}
+use Rattle.model.specs.Raster.{raster}
+use Rattle.model.proofs.Raster.{raster_pattern, raster_pattern_xor}
 use Rattle.model.specs.Rectangle.{pixel_byte}
 use Rattle.model.specs.Pattern.{pattern_bit, pattern_index}
 use Rattle.model.specs.Operands.{draw_operands}

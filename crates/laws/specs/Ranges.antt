@@ -1,13 +1,15 @@
 -- The ranges that the registers' fields give, and what judging accepts, as facts on rectangles, BLTs and vectors.
-use Rattle.std.specs.Prelude.{ℕ, ◌+◌, ◌-◌, ◌*◌, ◌^◌, ◌≤◌, ◌<◌, ◌≡◌, Bool, true, ◌||◌, List, pos}
+use Rattle.std.specs.Prelude.{ℕ, ◌+◌, ◌-◌, ◌*◌, ◌^◌, ◌≤◌, ◌<◌, ◌≡◌, Bool, true, ◌||◌, List, pos, if◌then◌else◌}
 use Rattle.std.proofs.Math.Path.{refl}
 use Rattle.std.proofs.Math.Bool.{false}
 use native.Mathlib.Omega.{arith}
 use Rattle.std.proofs.Math.Nat.{mod-lt}
 use Rattle.std.proofs.Common.{mul-le-mul}
 use Rattle.std.specs.Int.Signed.{lt_z}
-use Rattle.model.specs.Choice.{◌=?◌, if◌then◌else◌, not_both, neither, nonzero, if_both}
-use Rattle.model.specs.Refusals.{NoRule, positive, none_first}
+use Rattle.model.specs.Choice.{◌=?◌}
+use Rattle.model.proofs.Choice.{not_both, neither, nonzero, if_both}
+use Rattle.model.specs.Refusals.{NoRule, positive}
+use Rattle.model.proofs.Refusals.{none_first}
 use Rattle.model.specs.Limits.{side_most}
 use Rattle.model.specs.Registers.{granule, format_code, pattern_mode, source_address, source_stride, width, height, vector_length, source_mode, source_select}
 use Rattle.model.specs.Formats.{Depth, format_of, depth_of}

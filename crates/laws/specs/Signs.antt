@@ -1,13 +1,13 @@
 -- Signed numbers of a width. A local holds a signed number's bits, `of_z w z`, and an operation reads them back,
 -- `to_z w (of_z w z)`: the laws are stated as the code asks for them, over two numbers that fit.
-use Rattle.std.specs.Prelude.{ℕ, suc, ◌+◌, ◌-◌, ◌^◌, ◌≤◌, ◌<◌, ◌≡◌, refl, Bool, true, false, cond, ltb, ℤ, pos, negsuc, ◌+ℤ◌}
+use Rattle.std.specs.Prelude.{ℕ, suc, ◌+◌, ◌-◌, ◌^◌, ◌≤◌, ◌<◌, ◌≡◌, refl, Bool, true, false, cond, ltb, ℤ, pos, negsuc, ◌+ℤ◌, if◌then◌else◌}
 use Rattle.std.proofs.Common.{arith, ltb-true, ltb-false}
 use Rattle.std.proofs.Math.IntN.{sub_ℕ}
 use Rattle.std.specs.Int.Signed.{lt_z, mag}
 use Rattle.std.specs.Int.{Width}
 use mir.Val.{SFits, hbits, to_z, of_z}
 use Rattle.std.proofs.lemmas.Int.{to_z-of_z}
-use Rattle.model.specs.Choice.{if◌then◌else◌, not_both}
+use Rattle.model.proofs.Choice.{not_both}
 
 -- a difference of two naturals that lie less than h apart
 pub mag_sub : (h a b : ℕ) → a < b + h → b ≤ a + h → mag (sub_ℕ a b) < h

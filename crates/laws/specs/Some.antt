@@ -6,7 +6,8 @@ use Rattle.std.proofs.Common.{subst, eq-or-lt_of_le, le_of_suc-le-suc}
 use Rattle.std.proofs.Math.Logic.{⊎_elim}
 use native.Mathlib.Omega.{arith}
 use borrow.Author.Tests.{ltb-false, le-ltb}
-use Rattle.model.specs.Choice.{◌<?◌, if◌then◌else◌, true_or_false, not_both, either, neither, if_both}
+use Rattle.model.specs.Choice.{◌<?◌}
+use Rattle.model.proofs.Choice.{true_or_false, not_both, either, neither, if_both}
 use Rattle.model.specs.Bounds.{some, outside, least, greatest, extent}
 use Rattle.model.specs.declared.Extent.{Extent}
 use Rattle.model.specs.declared.Extent.TheVariants.{Inside, Outside}

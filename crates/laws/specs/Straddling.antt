@@ -1,9 +1,10 @@
 -- Where a pixel of a host source straddles two words, in closed form: at four bytes a pixel from bytes 1 to 3, at two from byte 3, or
 -- from byte 1 where a row has a second pixel, and nowhere where there is no pixel.
-use Rattle.std.specs.Prelude.{ℕ, zero, suc, ◌+◌, ◌-◌, ◌*◌, ◌/◌, ◌%◌, ◌≤◌, ◌<◌, ◌≡◌, refl, Bool, true, false, not, ◌&&◌, ◌||◌, List}
+use Rattle.std.specs.Prelude.{ℕ, zero, suc, ◌+◌, ◌-◌, ◌*◌, ◌/◌, ◌%◌, ◌≤◌, ◌<◌, ◌≡◌, refl, Bool, true, false, not, ◌&&◌, ◌||◌, List, if◌then◌else◌}
 use Rattle.std.proofs.Common.{sym, ap, ◌∙◌, ⊎_elim, arith, mul_assoc, mul-zero, mul-suc, zero-mul, add-zero, mod-lt, mod-eq_of_lt, eq-eqb, ne_eqb, eqb-true, lt-ltb, ltb-true, ltb-false}
 use Rattle.std.proofs.lemmas.Bool.{not-false, eqb-false}
-use Rattle.model.specs.Choice.{◌<?◌, ◌=?◌, if◌then◌else◌, true_or_false, not_both, both, either, neither, if_both}
+use Rattle.model.specs.Choice.{◌<?◌, ◌=?◌}
+use Rattle.model.proofs.Choice.{true_or_false, not_both, both, either, neither, if_both}
 use Rattle.model.specs.Registers.{format_code, source_mode, width, height}
 use Rattle.model.specs.Formats.{format_of, depth_of}
 use Rattle.model.specs.Bounds.{some}

@@ -6,7 +6,8 @@ use Rattle.std.proofs.Common.{sym, ap, ◌∙◌, arith, le_refl, mod-lt, add-mu
 use mathlib.Core.List.{List, [], ◌∷◌, ◌++◌}
 use Rattle.std.proofs.Math.ListN.{length-append, get_or-append}
 use Rattle.std.proofs.lemmas.Nat.{mod-pow-add}
-use Rattle.model.specs.Choice.{◌<?◌, ◌=?◌, if_both}
+use Rattle.model.specs.Choice.{◌<?◌, ◌=?◌}
+use Rattle.model.proofs.Choice.{if_both}
 use Rattle.model.specs.Registers.{pattern_mode, channel3_enable, channel3_pattern_mode}
 use Rattle.model.specs.Formats.{Depth}
 use Rattle.model.specs.Pattern.{pattern_index}

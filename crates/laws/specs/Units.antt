@@ -5,11 +5,12 @@ use Rattle.std.proofs.Math.Path.{refl}
 use Rattle.std.proofs.Common.{sym, ap, ◌∙◌, arith, zero-add, suc-add}
 use Rattle.std.proofs.Math.Bool.{true, false}
 use borrow.Author.Tests.{eqb-true, eq-eqb}
-use Rattle.model.specs.Choice.{◌=?◌, not_both, both}
-use Rattle.model.specs.Command.{kind_of, is_data}
+use Rattle.model.specs.Choice.{◌=?◌}
+use Rattle.model.proofs.Choice.{not_both, both}
 use Rattle.model.specs.Host.{host_word, draw_host}
-use Rattle.model.specs.Unit.{Machine, Done, header_at, command_refusal, stopped, loaded_core, taken_core, accepted_core, table_after, drawn_core, draw_pixel, fed_word, fed_core, unit_at, unit, drawing, ready, done, possible, units}
-use Rattle.model.specs.Steps.{machine, Step, loads, takes, refuses, draws, feeds, step_of}
+use Rattle.model.specs.Unit.{Machine, Done, command_refusal, stopped, accepted_core, table_after, drawn_core, draw_pixel, fed_word, fed_core, unit_at, unit, drawing, ready, done, possible, units}
+use Rattle.model.specs.Steps.{machine, Step, loads, takes, refuses, draws, feeds}
+use Rattle.model.proofs.Steps.{step_of}
 use Rattle.model.specs.declared.Core.{Core}
 use Rattle.model.specs.declared.Feed.{Feed}
 use Rattle.model.specs.declared.Place.{Place}

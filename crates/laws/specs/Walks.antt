@@ -1,8 +1,7 @@
 -- The walk along a vector: how far k steps lead.
-use Rattle.std.specs.Prelude.{ℕ, zero, suc, ◌+◌, ◌*◌, ◌^◌, ◌≤◌, ◌<◌, ◌≡◌, refl, Bool, true, false, pos}
+use Rattle.std.specs.Prelude.{ℕ, zero, suc, ◌+◌, ◌*◌, ◌^◌, ◌≤◌, ◌<◌, ◌≡◌, refl, Bool, true, false, pos, if◌then◌else◌}
 use Rattle.std.proofs.Common.{arith, add-zero, zero-add, suc-add, add-one}
 use Rattle.std.specs.Int.Signed.{lt_z}
-use Rattle.model.specs.Choice.{if◌then◌else◌}
 use Rattle.model.specs.VectorPixel.{major_step, minor_step, moved, axial_step, diagonal_step, step, position}
 use Rattle.model.specs.declared.Vector.{Vector}
 use Rattle.model.specs.declared.Position.{Position}

@@ -3,14 +3,17 @@ use Rattle.std.specs.Prelude.{ℕ, ◌≡◌, true, not, List, length}
 use Rattle.std.proofs.Math.Path.{refl}
 use Rattle.std.proofs.Common.{sym, ◌∙◌}
 use borrow.Author.Tests.{eqb-true, eq-eqb, not-false}
-use Rattle.model.specs.Choice.{◌=?◌, neither}
-use Rattle.model.specs.Refusals.{positive, exactly, none_first}
+use Rattle.model.specs.Choice.{◌=?◌}
+use Rattle.model.proofs.Choice.{neither}
+use Rattle.model.specs.Refusals.{positive}
+use Rattle.model.proofs.Refusals.{exactly, none_first}
 use Rattle.model.specs.Operands.{draw_operands}
 use Rattle.model.specs.BltPixel.{draw_at, draw_from, draw_blt, draw_tiled}
 use Rattle.model.specs.Host.{draw_host}
 use Rattle.model.specs.VectorPixel.{draw_vector}
 use Rattle.model.specs.Unit.{Machine, stopped, loaded_core, taken_core, drawn_core, draw_pixel, fed_core, unit, possible, units}
-use Rattle.model.specs.Steps.{Step, loads, takes, refuses, draws, feeds, step_of}
+use Rattle.model.specs.Steps.{Step, loads, takes, refuses, draws, feeds}
+use Rattle.model.proofs.Steps.{step_of}
 use Rattle.model.specs.Calls.{run_rules, run_refusal, machine_of}
 use Rattle.model.specs.declared.State.{State}
 use Rattle.model.specs.declared.Operands.{Operands}

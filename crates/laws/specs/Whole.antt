@@ -2,16 +2,18 @@
 -- same bit of a third says; the raster operation is a choice by S of two choices by D of four choices by P, between masks
 -- of the code's eight bits.
 use Prim.Native.Nat.{ℕ, zero, suc, ◌+◌, ◌-◌, ◌*◌, ◌/◌, ◌%◌, ◌^◌, ◌<◌}
-use Rattle.std.specs.Prelude.{◌≡◌}
+use Rattle.std.specs.Prelude.{◌≡◌, if◌then◌else◌}
 use Rattle.std.proofs.Math.Path.{refl}
 use Rattle.std.proofs.Common.{sym, ap, ◌∙◌, ⊎_elim, arith}
 use Rattle.std.proofs.Math.Nat.{pow-suc}
 use Rattle.std.specs.Int.Bits.{bit_and, bit_xor, differ, xor_step, and_zero_r, xor_zero_l}
 use Rattle.std.proofs.lemmas.Nat.{and_mod, xor_mod, and_shr, xor_shr, and_mask}
 use Rattle.std.proofs.Math.Pow.{pow_pos}
-use Rattle.model.specs.Choice.{◌=?◌, if◌then◌else◌}
-use Rattle.model.specs.Bits.{bit, bit_cases, by_bits}
-use Rattle.model.specs.Raster.{raster, chosen_bit, raster_lt, raster_odd, raster_half, raster_unique}
+use Rattle.model.specs.Choice.{◌=?◌}
+use Rattle.model.specs.Bits.{bit}
+use Rattle.model.proofs.Bits.{bit_cases, by_bits}
+use Rattle.model.specs.Raster.{raster, chosen_bit}
+use Rattle.model.proofs.Raster.{raster_lt, raster_odd, raster_half, raster_unique}
 
 -- bit by bit over m bits: x's bit where `by` has 0, y's where it has 1
 unfoldable pub choice : ℕ → ℕ → ℕ → ℕ → ℕ

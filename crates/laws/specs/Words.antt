@@ -1,17 +1,18 @@
 -- Rows by the word: the raster operation goes bit by bit, so four bytes are combined at once, whatever the depth of the pixels in
 -- them, with a colour that comes again in each.
 use Prim.Native.Nat.{ℕ, zero, suc, ◌+◌, ◌*◌, ◌/◌, ◌%◌, ◌^◌, ◌<◌}
-use Rattle.std.specs.Prelude.{◌≡◌, List}
+use Rattle.std.specs.Prelude.{◌≡◌, List, if◌then◌else◌}
 use Rattle.std.proofs.Math.Path.{refl, sym}
 use Rattle.std.proofs.Common.{ap, ◌∙◌, zero-mul, suc-mul, mul-suc, mod-lt, get_or-set_other}
 use native.Mathlib.Omega.{arith}
 use Rattle.std.proofs.Math.Nat.{mod-one}
 use Rattle.std.proofs.Math.ListN.{get_or, set}
-use Rattle.model.specs.Choice.{◌=?◌, if◌then◌else◌}
-use Rattle.model.specs.Bits.{low_split}
+use Rattle.model.specs.Choice.{◌=?◌}
+use Rattle.model.proofs.Bits.{low_split}
 use Rattle.model.specs.Formats.{Depth}
 use Rattle.model.specs.Pixel.{read_pixel, store_pixel}
-use Rattle.model.specs.Raster.{raster, chosen_bit, raster_odd, raster_half, raster_unique}
+use Rattle.model.specs.Raster.{raster, chosen_bit}
+use Rattle.model.proofs.Raster.{raster_odd, raster_half, raster_unique}
 use Rattle.laws.specs.Pixels.{Bytes, read_same, store_bytes, raster_narrow, depth_least}
 use Rattle.laws.specs.Order.{in_order, order_zero, order_suc, order_last, order_add, order_same, order_through}
 use Rattle.laws.specs.Numbers.{column_is}

@@ -1,5 +1,5 @@
 -- Two screens in one memory (document 02, W6), by cases: where pixels lie with a base, the refusals 27 and 28 by the whole place, and
--- row 3. Memories of many mebibyte stand here by their length alone: 27, 28 and row 3 look at no byte. The one table of Cases shows them.
+-- row 3. Memories of many MiB stand here by their length alone: 27, 28 and row 3 look at no byte. The one table of Cases shows them.
 use Rattle.std.specs.Prelude.{ℕ, ◌+◌, ◌-◌, ◌*◌, ◌≡◌, true, false, List, [], ◌∷◌, ◌++◌, map, replicate}
 use Rattle.model.specs.Registers.{RASTER_MODE, DST_OFFSET, STRIDE, WID_HEIGHT, PAT_COLOR_0, BASE_OFFSET, VEC_LEN, VEC_ERR, VECTOR_MODE}
 use Rattle.model.specs.Rectangle.{pixel_byte, column_of, row_of, pixels_of, rectangle_extent}
@@ -22,7 +22,7 @@ use Rattle.model.specs.declared.State.{State}
 
 -- ---- how they are set up
 
--- so many mebibyte
+-- so many MiB
 abbrev pub mebibyte : ℕ → ℕ
 mebibyte n = n * 1_048_576
 
@@ -57,7 +57,7 @@ row_in framelength base offset =
     let registers = row but BASE_OFFSET is bases base 0 but DST_OFFSET is offset in
     (judge Blt registers framelength, rectangle_extent framelength (blt_of registers).destination)
 
--- what judges a copy of the row to byte 0, with this source base and source offset, in 4 mebibyte and 16 bytes; and of 9 by 2 bits, XLSBS 7
+-- what judges a copy of the row to byte 0, with this source base and source offset, in 4 MiB and 16 bytes; and of 9 by 2 bits, XLSBS 7
 -- and source stride 4, unpacked (41h) and byte-packed (81h): two bytes a row
 abbrev pub copy_from : (base offset : ℕ) → ℕ
 copy_from base offset = judge Blt (copy offset 0 1 but BASE_OFFSET is bases 0 base) (mebibyte 4 + 16)
@@ -86,7 +86,7 @@ screens =
     (command (row but DST_OFFSET is 10 but STRIDE is 16 but WID_HEIGHT is 0x00040002 but PAT_COLOR_0 is 0x5A)
     ++ 0xC000 ∷ replicate 14 0 ++ (bases 1 0 ∷ 0 ∷ []))
 
--- after n units of it, in a memory of 8 mebibyte
+-- after n units of it, in a memory of 8 MiB
 abbrev pub screens_after : (frame : List ℕ) → (n : ℕ) → Done
 screens_after frame n = units screens 34 n 0 (machine_of (engine zeros (mebibyte 8) 0 34 Idle) frame)
 
@@ -124,13 +124,13 @@ pub record Bases : Type 0 where
       map two_bases (0x001 ∷ 0x041 ∷ 0x081 ∷ [])
       ≡ ((mebibyte 20 + 1) ∷ (mebibyte 20 + 2) ∷ [], (mebibyte 24 + 3) ∷ (mebibyte 24 + 4) ∷ [])
       ∷ replicate 2 ((mebibyte 20 + 1) ∷ (mebibyte 20 + 2) ∷ [], (mebibyte 24 + 3) ∷ [])
-  -- the last byte of 64 mebibyte drawn and the one after it refused, by base 15 and by base 12 with an offset near 16 mebibyte
+  -- the last byte of 64 MiB drawn and the one after it refused, by base 15 and by base 12 with an offset near 16 MiB
   pub last_byte :
       map (row_in (mebibyte 64) 15) (0x3FFFFC ∷ 0x3FFFFD ∷ []) ++ map (row_in (mebibyte 64) 12) (0xFFFFFC ∷ 0xFFFFFD ∷ [])
       ≡ (0, Inside (mebibyte 64 - 4) (mebibyte 64 - 1)) ∷ (27, Outside) ∷ (0, Inside (mebibyte 64 - 4) (mebibyte 64 - 1)) ∷ (27, Outside) ∷ []
-  -- base 1023 lies outside; with 4 mebibyte more it would be byte 0 of a memory in which 32 bits are counted. "Positions are .. never reduced"
+  -- base 1023 lies outside; with 4 MiB more it would be byte 0 of a memory in which 32 bits are counted. "Positions are .. never reduced"
   pub base_1023 : map (row_in (mebibyte 64) 1_023) (0 ∷ 0x400000 ∷ 0xFFFFFF ∷ []) ≡ replicate 3 (27, Outside)
-  -- 000's wrap at the end of a region of 16 mebibyte is void, and so is its beginning: across 16 mebibyte from base 0, and up and left from base 1
+  -- 000's wrap at the end of a region of 16 MiB is void, and so is its beginning: across 16 MiB from base 0, and up and left from base 1
   pub no_region : row_in (mebibyte 64) 0 0xFFFFFE ≡ (0, Inside (mebibyte 16 - 2) (mebibyte 16 + 1))
   pub below_base :
       drawn_at (copy 0 1 0x300 but RASTER_MODE is 0x600000F0 but STRIDE is 16 but WID_HEIGHT is 0x00020002 but BASE_OFFSET is bases 1 0)

@@ -1,7 +1,7 @@
 -- "A BLT pixel" (document 01), with mono sources and colour patterns (W1 and W4 of document 02): the pixels of a BLT, in the order in
 -- which they are drawn.
-use Rattle.std.specs.Prelude.{ℕ, ◌+◌, ◌-◌, ◌/◌, Bool, false, ◌&&◌, ◌||◌, List}
-use Rattle.model.specs.Choice.{◌=?◌, if◌then◌else◌}
+use Rattle.std.specs.Prelude.{ℕ, ◌+◌, ◌-◌, ◌/◌, Bool, false, ◌&&◌, ◌||◌, List, if◌then◌else◌}
+use Rattle.model.specs.Choice.{◌=?◌}
 use Rattle.model.specs.Registers.{word, SRC_COLOR_FG, SRC_COLOR_BG, PAT_COLOR_0, PAT_COLOR_1, PAT_DATA_0, PAT_DATA_1, format_code, source_inversion, source_transparency, pattern_transparency, pattern_mode, raster_code, pattern_row, pattern_column, channel3_row, channel3_column, channel3_enable, channel3_pattern_mode, destination_address, source_skip, source_address, source_stride, destination_stride, width, height, x_negative, y_negative, source_mode, source_select}
 use Rattle.model.specs.Formats.{format_of, depth_of}
 use Rattle.model.specs.Rectangle.{pixel_byte, column_of, row_of, rectangle_outside}

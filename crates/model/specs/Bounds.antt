@@ -1,7 +1,7 @@
 -- Where pixels lie. "Positions are signed whole numbers, never reduced": a position is kept as two natural numbers, what is
 -- added to the offset and what is taken away from it.
-use Rattle.std.specs.Prelude.{ℕ, zero, suc, ◌+◌, ◌-◌, Bool, false, ◌||◌}
-use Rattle.model.specs.Choice.{◌<?◌, ◌≤?◌, if◌then◌else◌}
+use Rattle.std.specs.Prelude.{ℕ, zero, suc, ◌+◌, ◌-◌, Bool, false, ◌||◌, if◌then◌else◌}
+use Rattle.model.specs.Choice.{◌<?◌, ◌≤?◌}
 use Rattle.model.specs.declared.Extent.{Extent}
 use Rattle.model.specs.declared.Extent.TheVariants.{Inside, Outside}
 

@@ -1,7 +1,7 @@
 -- The calls: setup, publish, run, restart and asking for room, with the state, frame memory and answer of each (document 01,
 -- Refusal numbers).
-use Rattle.std.specs.Prelude.{ℕ, ◌+◌, Bool, not, ◌&&◌, ◌||◌, List, [], ◌∷◌, ◌++◌, length, replicate}
-use Rattle.model.specs.Choice.{◌<?◌, ◌≤?◌, ◌=?◌, if◌then◌else◌}
+use Rattle.std.specs.Prelude.{ℕ, ◌+◌, Bool, not, ◌&&◌, ◌||◌, List, [], ◌∷◌, ◌++◌, length, replicate, if◌then◌else◌}
+use Rattle.model.specs.Choice.{◌<?◌, ◌≤?◌, ◌=?◌}
 use Rattle.model.specs.Refusals.{Rule, ◌when◌, first, any}
 use Rattle.model.specs.Limits.{ring_least, ring_most, frame_most, count_most, stop_least, stop_most, table_length}
 use Rattle.model.specs.Registers.{register_count}

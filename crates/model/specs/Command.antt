@@ -1,7 +1,7 @@
 -- Commands in the ring: header, kind, length, what is drawn, wholeness, and the loading of the enabled words (document 01, The ring,
 -- and document 02, W4 and W5; 000, Tables 6-8 to 6-12).
-use Rattle.std.specs.Prelude.{ℕ, ◌+◌, ◌-◌, ◌%◌, Bool, true, false, not, ◌&&◌, ◌||◌, List, [], ◌∷◌, length, set}
-use Rattle.model.specs.Choice.{◌<?◌, ◌=?◌, if◌then◌else◌}
+use Rattle.std.specs.Prelude.{ℕ, ◌+◌, ◌-◌, ◌%◌, Bool, true, false, not, ◌&&◌, ◌||◌, List, [], ◌∷◌, length, set, if◌then◌else◌}
+use Rattle.model.specs.Choice.{◌<?◌, ◌=?◌}
 use Rattle.model.specs.Refusals.{Rule, ◌when◌}
 use Rattle.model.specs.Bits.{set?, field}
 use Rattle.model.specs.Registers.{RASTER_MODE, DST_OFFSET, SRC_OFFSET, STRIDE, WID_HEIGHT, SRC_COLOR_FG, SRC_COLOR_BG, PAT_COLOR_0, PAT_COLOR_1, PAT_DATA_0, PAT_DATA_1, CH3_OFFSET, CH3_MODE_STR, CH3_WIDHI, BASE_OFFSET, BLT_MODE, VECTOR_MODE, LUT_INDEX, VEC_ERR, VEC_LEN, word}
@@ -11,7 +11,6 @@ use Rattle.model.specs.declared.Drawn.{Drawn}
 use Rattle.model.specs.declared.Drawn.TheVariants.{Nothing, Draws}
 use Rattle.model.specs.declared.Kind.{Kind}
 use Rattle.model.specs.declared.Kind.TheVariants.{Blt, Vector, Table, Data}
-use Rattle.model.specs.declared.Primitive.{Primitive}
 use Rattle.model.specs.declared.Primitive.TheVariants.{Blt as BltPrimitive, Vector as VectorPrimitive}
 
 -- ---- the header

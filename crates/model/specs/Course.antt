@@ -1,8 +1,8 @@
 -- Lists of calls, and document 01's plain course over them ("What a signature on this engine means"). "The plain course is
 -- fed the start and the calls with their positions and budgets, no answers. It holds and hands on its own engine state,
 -- frame memory and a sum that begins at 0."
-use Rattle.std.specs.Prelude.{ℕ, zero, suc, ◌+◌, not, ◌&&◌, List, [], ◌∷◌, length}
-use Rattle.model.specs.Choice.{◌<?◌, ◌≤?◌, ◌=?◌, if◌then◌else◌}
+use Rattle.std.specs.Prelude.{ℕ, zero, suc, ◌+◌, not, ◌&&◌, List, [], ◌∷◌, length, if◌then◌else◌}
+use Rattle.model.specs.Choice.{◌<?◌, ◌≤?◌, ◌=?◌}
 use Rattle.model.specs.Ring.{waiting, distance}
 use Rattle.model.specs.Unit.{unit, possible}
 use Rattle.model.specs.Calls.{unfit, restarted, with_write, machine_of}

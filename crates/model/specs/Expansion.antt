@@ -1,7 +1,6 @@
 -- Mono sources: the pixels of a row are bits in frame memory, each expanded to a colour (000, 6.3.8.2 and 6.3.8.3).
-use Rattle.std.specs.Prelude.{ℕ, ◌+◌, ◌-◌, ◌*◌, ◌/◌, ◌%◌, ◌≤◌, ◌<◌, ◌≡◌, Bool, List}
-use Rattle.std.proofs.Common.{arith}
-use Rattle.model.specs.Choice.{◌=?◌, if◌then◌else◌}
+use Rattle.std.specs.Prelude.{ℕ, ◌+◌, ◌-◌, ◌/◌, ◌%◌, Bool, List, if◌then◌else◌}
+use Rattle.model.specs.Choice.{◌=?◌}
 use Rattle.model.specs.Bits.{bit}
 use Rattle.model.specs.Pixel.{read_pixel}
 use Rattle.model.specs.Rectangle.{pixel_byte}
@@ -30,18 +29,3 @@ expand m b =
     if inverted m.inversion b =? 1 then Value m.foreground
     else if m.transparent then Transparent
     else Value m.background
-
--- ---- laws: of a row of so many pixels, the bytes up to the last column's
-
-module _ (skip width : ℕ) where
-  -- hold the bit of every column
-  pub bits_held : (i : ℕ) → i < width → byte_column skip i ≤ byte_column skip (width - 1)
-  bits_held i l = omega arith
-
-  -- and each of them holds the bit of some column
-  pub bytes_needed : skip < 8 → 0 < width → (c : ℕ) → c ≤ byte_column skip (width - 1) → (i : ℕ) × (i < width) × (byte_column skip i ≡ c)
-  bytes_needed s w c l = (8 * c - skip, omega arith, omega arith)
-
-  -- so byte-packed rows lie side by side
-  pub rows_adjoin : 0 < width → byte_column skip (width - 1) + 1 ≡ (skip + width + 7) / 8
-  rows_adjoin w = omega arith

@@ -1,6 +1,6 @@
 -- "The colour format is a decision over all sixteen codes" (document 01, Formats).
-use Rattle.std.specs.Prelude.{ℕ, ◌≡◌, refl, ◌||◌, [], ◌∷◌, map}
-use Rattle.model.specs.Choice.{◌=?◌, if◌then◌else◌}
+use Rattle.std.specs.Prelude.{ℕ, ◌||◌, if◌then◌else◌}
+use Rattle.model.specs.Choice.{◌=?◌}
 use Rattle.model.specs.declared.Format.{Format}
 use Rattle.model.specs.declared.Format.TheVariants.{Bytes, Refused}
 
@@ -23,15 +23,3 @@ pub data Depth : ℕ → Type 0 where
   one : Depth 1
   two : Depth 2
   four : Depth 4
-
--- ---- laws
-
--- the sixteen codes, 0000 to 1111
-pub formats :
-    map format_of (0 ∷ 1 ∷ 2 ∷ 3 ∷ 4 ∷ 5 ∷ 6 ∷ 7 ∷ 8 ∷ 9 ∷ 10 ∷ 11 ∷ 12 ∷ 13 ∷ 14 ∷ 15 ∷ [])
-    ≡ Bytes 1 ∷ Refused ∷ Refused ∷ Refused
-    ∷ Bytes 2 ∷ Bytes 2 ∷ Bytes 2 ∷ Refused
-    ∷ Bytes 4 ∷ Refused ∷ Refused ∷ Refused
-    ∷ Refused ∷ Refused ∷ Refused ∷ Refused ∷ []
-unfolding format_of
-formats = refl

@@ -1,8 +1,7 @@
 -- Host sources: how the pixels of a BLT lie in the data words that it takes, counted from 0 over all its data commands (document
 -- 02, W5; 000, 6.3.8.2 with Tables 6-23 and 6-24, and 6.4.2.2).
-use Rattle.std.specs.Prelude.{ℕ, ◌+◌, ◌-◌, ◌*◌, ◌/◌, ◌%◌, ◌≡◌, Bool, false, not, ◌&&◌, ◌||◌, List}
-use Rattle.std.proofs.Common.{arith, mul_left_comm}
-use Rattle.model.specs.Choice.{◌<?◌, ◌=?◌, if◌then◌else◌, neither}
+use Rattle.std.specs.Prelude.{ℕ, ◌+◌, ◌-◌, ◌*◌, ◌/◌, ◌%◌, Bool, false, not, ◌&&◌, ◌||◌, List, if◌then◌else◌}
+use Rattle.model.specs.Choice.{◌<?◌, ◌=?◌}
 use Rattle.model.specs.Bits.{bit, field}
 use Rattle.model.specs.Registers.{word, SRC_OFFSET, format_code, source_skip, source_mode, source_select, width}
 use Rattle.model.specs.Formats.{format_of, depth_of}
@@ -104,24 +103,3 @@ draw_host registers table k word frame =
 abbrev pub takes_data : Primitive → List ℕ → Bool
 takes_data Blt registers = from_host registers
 takes_data Vector registers = false
-
--- ---- laws: what a row takes
-
-module _ (registers : List ℕ) where
-  -- of colour pixels (f + width * depth) / 4 words, rounded up
-  pub color_row : mono_mode registers ≡ false
-      → host_stride registers ≡ 4 * ((starting_byte registers + width registers * depth_of (format_of (format_code registers)) + 3) / 4)
-  color_row e =
-      let depth = depth_of (format_of (format_code registers)) in
-      let h = neither (source_mode registers =? 0b01) (source_mode registers =? 0b10) e in
-      let p : width registers * (8 * depth) ≡ 8 * (width registers * depth) = mul_left_comm (width registers) 8 depth in
-      rw (h.0, h.1) (omega arith)
-
-  -- of unpacked mono pixels (8 f + XLSBS + width) / 32 words, rounded up
-  pub unpacked_row : source_mode registers ≡ 0b01
-      → host_stride registers ≡ 4 * ((8 * starting_byte registers + source_skip registers + width registers + 31) / 32)
-  unpacked_row e = rw e (omega arith)
-
-  -- of byte-packed mono pixels (XLSBS + width) / 8 bytes, rounded up
-  pub packed_row : source_mode registers ≡ 0b10 → host_stride registers ≡ (source_skip registers + width registers + 7) / 8
-  packed_row e = rw e (omega arith)

@@ -1,7 +1,6 @@
 -- The lookup table: the words that a table load writes into it, and the tile of a colour pattern that stands in it (document 02, W4;
 -- 000, Table 6-10, 6.3.7, 6.4.2.25 and 6.4.2.26).
-use Rattle.std.specs.Prelude.{ℕ, zero, suc, ◌+◌, ◌-◌, ◌*◌, ◌/◌, ◌%◌, ◌<◌, ◌≡◌, refl, Bool, not, ◌||◌, List, [], ◌∷◌, map, get_or, set, replicate}
-use Rattle.std.proofs.Common.{◌∙◌, arith}
+use Rattle.std.specs.Prelude.{ℕ, zero, suc, ◌+◌, ◌-◌, ◌*◌, ◌/◌, ◌%◌, Bool, not, ◌||◌, List, get_or, set}
 use Rattle.model.specs.Choice.{◌<?◌, ◌=?◌}
 use Rattle.model.specs.Bits.{field}
 use Rattle.model.specs.Limits.{table_length}
@@ -56,28 +55,3 @@ tile_value (suc n) table at = tile_byte table at + 256 * tile_value n table (at 
 -- leftmost colour
 unfoldable pub tile_color : (depth : ℕ) → List ℕ → (row column : ℕ) → ℕ
 tile_color depth table row column = tile_value depth table ((8 * row + column) * depth)
-
--- ---- laws
-
--- the index goes round: 511 to 0, with bits 31:9 as they were
-pub indices : map next_index (0 ∷ 510 ∷ 511 ∷ 512 ∷ 0xFFFFFFFF ∷ []) ≡ 1 ∷ 511 ∷ 0 ∷ 513 ∷ 0xFFFFFE00 ∷ []
-unfolding next_index
-indices = refl
-
--- n words further on it stands n further, modulo the table's length
-splits : (q r : ℕ) → r < 512 → ((q * 512 + r) / 512 ≡ q) × ((q * 512 + r) % 512 ≡ r)
-splits q r l = (omega arith, omega arith)
-
-next_splits : (index : ℕ) → (next_index index / 512 ≡ index / 512) × (next_index index % 512 ≡ (index % 512 + 1) % 512)
-unfolding next_index
-next_splits index =
-    let e : next_index index ≡ index / 512 * 512 + (index % 512 + 1) % 512 = omega arith in
-    rw e (splits (index / 512) ((index % 512 + 1) % 512) (omega arith))
-
-pub index_after_lem : (n index : ℕ) → index_after n index ≡ index / 512 * 512 + (index % 512 + n) % 512
-unfolding index_after
-index_after_lem zero index = omega arith
-index_after_lem (suc n) index =
-    let s = next_splits index in
-    let e : ((index % 512 + 1) % 512 + n) % 512 ≡ (index % 512 + suc n) % 512 = omega arith in
-    index_after_lem n (next_index index) ∙ rw (s.0, s.1, e)

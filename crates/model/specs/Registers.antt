@@ -70,7 +70,7 @@ VEC_ERR = SRC_OFFSET
 abbrev pub VEC_LEN : ℕ
 VEC_LEN = WID_HEIGHT
 
--- W6: the "granule of 000": a base "begins on a 4 MB boundary", 4 mebibyte
+-- W6: the "granule of 000": a base "begins on a 4 MB boundary", 4 MiB
 abbrev pub granule : ℕ
 granule = 4_194_304
 

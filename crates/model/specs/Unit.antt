@@ -1,6 +1,6 @@
 -- One unit of work, and n of them (document 01, Units, and how a run ends; document 02, W5).
-use Rattle.std.specs.Prelude.{ℕ, zero, suc, ◌+◌, ◌-◌, Bool, true, false, ◌&&◌, ◌||◌, List, [], ◌++◌, get_or}
-use Rattle.model.specs.Choice.{◌≤?◌, ◌=?◌, if◌then◌else◌}
+use Rattle.std.specs.Prelude.{ℕ, zero, suc, ◌+◌, ◌-◌, Bool, true, false, ◌&&◌, ◌||◌, List, [], ◌++◌, get_or, if◌then◌else◌}
+use Rattle.model.specs.Choice.{◌≤?◌, ◌=?◌}
 use Rattle.model.specs.Refusals.{Rule, first}
 use Rattle.model.specs.Ring.{waiting, word_at}
 use Rattle.model.specs.Lookup.{data_count}

@@ -1,7 +1,7 @@
 -- "A vector pixel" (document 01): the pixels of a vector, in the order in which they are drawn.
-use Rattle.std.specs.Prelude.{ℕ, zero, suc, ◌+◌, Bool, List, ℤ, pos, ◌+ℤ◌, ◌-ℤ◌}
+use Rattle.std.specs.Prelude.{ℕ, zero, suc, ◌+◌, Bool, List, ℤ, pos, ◌+ℤ◌, ◌-ℤ◌, if◌then◌else◌}
 use Rattle.std.specs.Int.Signed.{lt_z}
-use Rattle.model.specs.Choice.{◌<?◌, if◌then◌else◌}
+use Rattle.model.specs.Choice.{◌<?◌}
 use Rattle.model.specs.Registers.{word, SRC_COLOR_FG, PAT_COLOR_0, format_code, raster_code, destination_address, axial_field, diagonal_field, destination_stride, vector_length, initial_field, minor_positive, major_positive, y_major}
 use Rattle.model.specs.Formats.{format_of, depth_of}
 use Rattle.model.specs.Bounds.{first_byte, outside, extent}

@@ -1,4 +1,5 @@
 // The types that every crate shares. What they mean is in specs/, a file for each part of the rules.
+#![tactic(auto)]
 
 // ---- limits, and the registers by their numbers (specs/Limits and specs/Registers have the same)
 
@@ -64,14 +65,14 @@ pub const VEC_LEN: usize = WID_HEIGHT;
 // ---- what the registers and headers say
 
 // The decision on a colour format's code: its bytes a pixel, or refusal.
-#[derive(Drop)]
+#[derive(Clone, Copy)]
 pub enum Format {
     Bytes(usize),
     Refused,
 }
 
 // The kind of a command, as its header gives it.
-#[derive(Drop)]
+#[derive(Clone, Copy)]
 pub enum Kind {
     Blt,
     Vector,
@@ -80,14 +81,14 @@ pub enum Kind {
 }
 
 // What can be drawn.
-#[derive(Drop)]
+#[derive(Clone, Copy)]
 pub enum Primitive {
     Blt,
     Vector,
 }
 
 // What a command draws, if it draws.
-#[derive(Drop)]
+#[derive(Clone, Copy)]
 pub enum Drawn {
     Nothing,
     Draws(Primitive),
@@ -96,7 +97,7 @@ pub enum Drawn {
 // ---- the engine state
 
 // A data command that is accepted and not passed yet: how many of the BLT's data words came before it, its count and its W.
-#[derive(Drop)]
+#[derive(Clone, Copy)]
 pub struct Feed {
     pub before: u32,
     pub count: u32,
@@ -105,7 +106,7 @@ pub struct Feed {
 
 // The place in a command in progress: none, or what is drawn and how many of its pixels are drawn already; of a BLT with host
 // source, that it wants a data command, or the one that feeds it. Everything else of the place follows from the registers.
-#[derive(Drop)]
+#[derive(Clone, Copy)]
 pub enum Place {
     Idle,
     Drawing(Primitive, usize),
@@ -114,7 +115,7 @@ pub enum Place {
 }
 
 // The engine state without the write pointer. One unit of work looks at this, and never at the write pointer.
-#[derive(Drop)]
+#[derive(Clone, Copy)]
 pub struct Core {
     // in the order of specs/Registers
     pub registers: [u32; REGISTERS],
@@ -129,7 +130,7 @@ pub struct Core {
 }
 
 // The engine state. The lookup table stands beside the core, so that no unit copies it.
-#[derive(Drop)]
+#[derive(Clone, Copy)]
 pub struct State {
     pub core: Core,
     pub table: [u32; TABLE],
@@ -139,14 +140,14 @@ pub struct State {
 // ---- answers
 
 // Where pixels lie in frame memory: their lowest and their highest byte, or some byte of one outside.
-#[derive(Drop)]
+#[derive(Clone, Copy)]
 pub enum Extent {
     Inside { low: usize, high: usize },
     Outside,
 }
 
 // The word that a run reports.
-#[derive(Drop)]
+#[derive(Clone, Copy)]
 pub enum RunWord {
     Stopped,
     Waiting,
@@ -154,7 +155,7 @@ pub enum RunWord {
 }
 
 // What a call answers: its refusal's number; or, accepted, the room after it; or, from a run, also its word and its units.
-#[derive(Drop)]
+#[derive(Clone, Copy)]
 pub enum Reply {
     Refused(u32),
     Accepted {
@@ -168,7 +169,7 @@ pub enum Reply {
 }
 
 // A call's answer with the state that it hands back.
-#[derive(Drop)]
+#[derive(Clone, Copy)]
 pub struct Answer {
     pub state: State,
     pub reply: Reply,
@@ -177,7 +178,7 @@ pub struct Answer {
 // ---- what is drawn
 
 // One axis of a rectangle of pixels: how many there are along it, the bytes of a step, and whether it goes back.
-#[derive(Drop)]
+#[derive(Clone, Copy)]
 pub struct Axis {
     pub count: usize,
     pub step: usize,
@@ -186,7 +187,7 @@ pub struct Axis {
 
 // Pixels in frame memory: the first byte of the first one drawn, or with X negative its last, counted from byte 0 of frame memory;
 // bytes a pixel; and the two axes.
-#[derive(Drop)]
+#[derive(Clone, Copy)]
 pub struct Rectangle {
     pub offset: usize,
     pub depth: usize,
@@ -196,7 +197,7 @@ pub struct Rectangle {
 
 // A mono source: the bytes of frame memory that hold its rows of bits, how many bits of a row's first byte are skipped, the
 // colours of a set and a clear bit, whether the bits are inverted before, and whether a clear bit writes nothing.
-#[derive(Drop)]
+#[derive(Clone, Copy)]
 pub struct MonoSource {
     pub bytes: Rectangle,
     pub skip: usize,
@@ -208,7 +209,7 @@ pub struct MonoSource {
 
 // Where a BLT's source values come from: none is selected and all are one colour; a rectangle of frame memory; bits there. A
 // host source stands for none here: its values stand in the ring, and each is handed to its pixel.
-#[derive(Drop)]
+#[derive(Clone, Copy)]
 pub enum Source {
     Unselected(u32),
     Frame(Rectangle),
@@ -217,7 +218,7 @@ pub enum Source {
 
 // How the pixels of a host source lie in the bytes of the BLT's data words: the first byte of the first row, the bytes from one
 // row to the next, how many bits of a row's first byte are skipped, and bits a pixel.
-#[derive(Drop)]
+#[derive(Clone, Copy)]
 pub struct Host {
     pub first: usize,
     pub stride: usize,
@@ -226,7 +227,7 @@ pub struct Host {
 }
 
 // What a source gives a pixel: nothing is written there, or a value.
-#[derive(Drop)]
+#[derive(Clone, Copy)]
 pub enum SourceValue {
     Transparent,
     Value(u32),
@@ -234,7 +235,7 @@ pub enum SourceValue {
 
 // A mono pattern: its eight rows, the row and column of the first pixel, the colours of a clear and a set bit, and whether a
 // clear bit writes nothing.
-#[derive(Drop)]
+#[derive(Clone, Copy)]
 pub struct MonoPattern {
     pub data0: u32,
     pub data1: u32,
@@ -246,7 +247,7 @@ pub struct MonoPattern {
 }
 
 // Where a BLT's pattern values come from: one colour, or a mono pattern.
-#[derive(Drop)]
+#[derive(Clone, Copy)]
 pub enum Pattern {
     Solid(u32),
     Mono(MonoPattern),
@@ -254,21 +255,21 @@ pub enum Pattern {
 
 // A BLT's colour pattern, which stands in place of its other pattern: none, or its tile in the lookup table, with the row and
 // column of the first pixel.
-#[derive(Drop)]
+#[derive(Clone, Copy)]
 pub enum ColorPattern {
     Absent,
     Tile { row: usize, column: usize },
 }
 
 // What a pixel gets beside what stands there: nothing is written, or a pattern and a source value are combined with it.
-#[derive(Drop)]
+#[derive(Clone, Copy)]
 pub enum Operands {
     Nothing,
     Values { pattern: u32, source: u32 },
 }
 
 // A BLT as its registers describe it, with its raster operation.
-#[derive(Drop)]
+#[derive(Clone, Copy)]
 pub struct Blt {
     pub destination: Rectangle,
     pub source: Source,
@@ -277,7 +278,7 @@ pub struct Blt {
 }
 
 // A vector as its registers describe it.
-#[derive(Drop)]
+#[derive(Clone, Copy)]
 pub struct Vector {
     // bytes a pixel; length in pixels
     pub depth: usize,
@@ -300,7 +301,7 @@ pub struct Vector {
 }
 
 // Where a pixel of a vector lies: what is added to the destination offset and what is taken away, and the error there.
-#[derive(Drop)]
+#[derive(Clone, Copy)]
 pub struct Position {
     pub plus: usize,
     pub minus: usize,

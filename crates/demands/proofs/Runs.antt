@@ -11,7 +11,8 @@ use Rattle.model.specs.declared.State.{State}
 use Rattle.model.specs.declared.RunWord.TheVariants.{Spent}
 use Rattle.laws.specs.Units.{possible_running, units_zero, units_add}
 use Rattle.laws.specs.WellFormed.{WellFormed, wellformed_units}
-use Rattle.demands.specs.Courses.{configuration, machine_in, run_units_lem}
+use Rattle.demands.specs.Courses.{configuration, machine_in}
+use Rattle.demands.proofs.Courses.{run_units_lem}
 
 -- the engine rests exactly where no unit can be done
 pub rests_impossible : (ring : List ℕ) (y : Configuration) → Rests ring y → possible ring y.state.core y.state.write ≡ false

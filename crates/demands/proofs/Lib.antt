@@ -1,0 +1,14 @@
+pub mod Waits
+pub mod Table
+pub mod Courses
+pub mod Demand1
+pub mod Demand2
+pub mod Runs
+pub mod Lasting
+pub mod Arrival
+pub mod Progress
+pub mod Demand3
+pub mod Night
+pub mod Splits
+pub mod Raised
+pub mod Screens

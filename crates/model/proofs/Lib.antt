@@ -1,0 +1,15 @@
+pub mod Choice
+pub mod Refusals
+pub mod Bits
+pub mod Formats
+pub mod Ring
+pub mod Lookup
+pub mod Pixel
+pub mod Raster
+pub mod PatternLaws
+pub mod Completion
+pub mod RectangleLaws
+pub mod Expansion
+pub mod HostLaws
+pub mod Steps
+pub mod Cases
