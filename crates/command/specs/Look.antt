@@ -1,14 +1,16 @@
 -- What stands at the read pointer, by the header there and, of a table load or a data command, its count word: a command that waits for
 -- more words, one that these refuse, or a whole one.
-use Rattle.std.specs.Prelude.{ℕ, ◌+◌, ◌≤◌, ◌<◌, ◌≡◌, Bool, not, ◌||◌, List}
+use Rattle.std.specs.Prelude.{ℕ, ◌+◌, ◌≤◌, ◌<◌, ◌≡◌, Bool, not, ◌||◌, List, if◌then◌else◌}
 use Rattle.std.proofs.Math.Path.{refl}
 use Rattle.std.proofs.Common.{ap, subst, ◌∙◌, arith}
 use Rattle.std.proofs.Math.Bool.{true, false}
 use borrow.Author.Tests.{eqb-true, eqb-false, ltb-false, not-false}
-use Rattle.model.specs.Choice.{◌<?◌, ◌≤?◌, ◌=?◌, if◌then◌else◌, neither, nonzero}
+use Rattle.model.specs.Choice.{◌<?◌, ◌≤?◌, ◌=?◌}
+use Rattle.model.proofs.Choice.{neither, nonzero}
 use Rattle.model.specs.Bits.{field}
 use Rattle.model.specs.Limits.{table_length}
-use Rattle.model.specs.Refusals.{first, positive, none_first}
+use Rattle.model.specs.Refusals.{first, positive}
+use Rattle.model.proofs.Refusals.{none_first}
 use Rattle.model.specs.Ring.{waiting}
 use Rattle.model.specs.Lookup.{data_type, data_count, bad_count}
 use Rattle.model.specs.Command.{returns, kind_of, bad_header, is_data, count_word, command_length, drawn_by, bad_return, bad_table, bad_data_word, header_rules, bad_start, judged_words, whole_words, read_after, loaded_table}

@@ -1,12 +1,13 @@
 // Commands in the ring: what a header and a count word say, the refusals 21, 30, 31, 29, 32 and 22, the words that must wait, the
 // registers and the lookup table after loading, and the read pointer after it.
-ghost use Rattle.std.specs.Prelude.{◌≡◌, true, false, List, ℕ, ◌+◌, ◌%◌, ◌≤◌, ◌<◌, length, get_or};
+#![tactic(auto)]
+
+ghost use Rattle.std.specs.Prelude.{◌≡◌, true, false, List, ℕ, ◌+◌, ◌%◌, ◌≤◌, ◌<◌, length, get_or, if◌then◌else◌};
 ghost use Rattle.model.specs.Limits.{ring_least, table_length};
 ghost use Rattle.model.specs.Registers.{register_count};
 ghost use Rattle.model.specs.Refusals.{first};
 ghost use Rattle.model.specs.Lookup.{data_count, bad_count, index_after, data_stored};
 ghost use Rattle.model.specs.Command.{returns, kind_of, bad_header, is_data, word_registers, count_place, count_word, command_length, drawn_by, bad_return, unwanted, unasked, bad_table, bad_data_count, bad_data_word, bad_data, header_rules, bad_start, judged_words, whole_words, read_after, enabled, loaded, loaded_table};
-ghost use Rattle.model.specs.Choice.{if◌then◌else◌};
 ghost use Rattle.model.specs.declared.Drawn.TheVariants.{Nothing, Draws};
 ghost use Rattle.model.specs.declared.Kind.TheVariants.{Blt as BltKind, Vector as VectorKind, Table as TableKind, Data as DataKind};
 ghost use Rattle.command.specs.Look.{needed_words, look, is_ready, refused_at, plain_seen, table_seen, data_seen, wanted_seen};
@@ -280,7 +281,7 @@ pub fn header_refusal(wants: bool, size: usize, read: usize, header: u32, counte
 }
 
 // How many words must wait before the command is whole.
-pub fn whole_words_lem(size: usize, read: usize, length: usize, w: bool) -> usize
+pub fn whole_words(size: usize, read: usize, length: usize, w: bool) -> usize
     requires { read < size }
     ensures { result ≡ whole_words size read length w }
 {
@@ -323,7 +324,7 @@ fn needed_words(
     requires { read < size }
     ensures { result ≡ needed_words wants size read header length number }
 {
-    let whole = whole_words_lem(size, read, length, returns(header));
+    let whole = whole_words(size, read, length, returns(header));
     if number == 0 {
         return whole;
     }
@@ -362,7 +363,7 @@ pub fn read_after(size: usize, read: usize, length: usize, w: bool) -> usize
 // What stands at the read pointer: a command of which too few words wait, one that its header or its count word refuses, with the
 // number, or a whole one: a data command with its count and its W, or, with where the read pointer stands after it, a table load with
 // its count, or any other with what it draws.
-#[derive(Drop)]
+#[derive(Clone, Copy)]
 pub enum Seen {
     Waits,
     Refused(u32),
@@ -390,7 +391,7 @@ fn look_plain(size: usize, read: usize, there: usize, length: usize, w: bool, dr
     if back {
         return refused(there, 1, 22);
     }
-    let whole = whole_words_lem(size, read, length, w);
+    let whole = whole_words(size, read, length, w);
     if there < whole {
         return Seen::Waits;
     }
@@ -412,7 +413,7 @@ fn look_table(size: usize, read: usize, there: usize, w: bool, counted: u32) -> 
     if across {
         return refused(there, 3, 22);
     }
-    let whole = whole_words_lem(size, read, length, w);
+    let whole = whole_words(size, read, length, w);
     if there < whole {
         return Seen::Waits;
     }
@@ -435,7 +436,7 @@ fn look_data(size: usize, read: usize, there: usize, w: bool, counted: u32) -> S
     if across {
         return refused(there, 2, 22);
     }
-    let whole = whole_words_lem(size, read, length, w);
+    let whole = whole_words(size, read, length, w);
     if there < whole {
         return Seen::Waits;
     }

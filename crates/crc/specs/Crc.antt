@@ -1,7 +1,7 @@
 -- CRC-32, as zip and PNG have it: the remainder by the polynomial EDB88320h, the lowest bit first.
-use Rattle.std.specs.Prelude.{ℕ, ◌/◌, ◌%◌, List, [], ◌∷◌}
+use Rattle.std.specs.Prelude.{ℕ, ◌/◌, ◌%◌, List, [], ◌∷◌, if◌then◌else◌}
 use Rattle.std.specs.Int.Bits.{bit_xor}
-use Rattle.model.specs.Choice.{◌=?◌, if◌then◌else◌}
+use Rattle.model.specs.Choice.{◌=?◌}
 
 -- one bit
 unfoldable pub crc_bit : ℕ → ℕ

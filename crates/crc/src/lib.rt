@@ -1,4 +1,6 @@
 // CRC-32, as zip and PNG have it.
+#![tactic(auto)]
+
 ghost use Rattle.std.specs.Prelude.{◌≡◌, ◌<◌};
 ghost use Rattle.crc.specs.Crc.{crc_bit, crc_byte, crc32};
 

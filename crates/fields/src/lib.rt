@@ -1,4 +1,6 @@
 // Fields of a word, the colour format's decision, and where a channel begins in frame memory.
+#![tactic(auto)]
+
 ghost use Rattle.std.specs.Prelude.{◌≡◌, ◌+◌, ◌-◌, ◌*◌, ◌^◌, ◌<◌, ◌≤◌};
 ghost use Rattle.model.specs.Bits.{field, set?};
 ghost use Rattle.model.specs.Formats.{format_of, depth_of};

@@ -1,4 +1,6 @@
 // Copies by one move of bytes: rows whose source is in frame memory, under raster operation CCh.
+#![tactic(auto)]
+
 ghost use Rattle.std.specs.Prelude.{◌≡◌, true, ◌+◌, ◌*◌, ◌^◌, ◌≤◌, ◌<◌, length};
 ghost use Rattle.laws.specs.Rows.{Row, row_pixels};
 ghost use Rattle.laws.specs.Lows.{low_byte};

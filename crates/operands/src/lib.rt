@@ -1,6 +1,7 @@
 // What a pixel of a BLT gets beside what stands there, and the drawing of it. A new source or pattern is an arm here.
-ghost use Rattle.std.specs.Prelude.{◌≡◌, ◌+◌, ◌^◌, ◌≤◌, ◌<◌, length};
-ghost use Rattle.model.specs.Choice.{if◌then◌else◌};
+#![tactic(auto)]
+
+ghost use Rattle.std.specs.Prelude.{◌≡◌, ◌+◌, ◌^◌, ◌≤◌, ◌<◌, length, if◌then◌else◌};
 ghost use Rattle.model.specs.Formats.{Depth};
 ghost use Rattle.model.specs.Operands.{draw_operands};
 ghost use Rattle.model.specs.Expansion.{byte_column, expand as expandBit};

@@ -1,6 +1,8 @@
 // One pixel: its bytes in frame memory, the raster operation on it, and the mono pattern's bit for it.
-ghost use Rattle.std.specs.Prelude.{◌≡◌, ◌+◌, ◌*◌, ◌%◌, ◌≤◌, ◌<◌, length};
-ghost use Rattle.model.specs.Choice.{◌<?◌, if◌then◌else◌};
+#![tactic(auto)]
+
+ghost use Rattle.std.specs.Prelude.{◌≡◌, ◌+◌, ◌*◌, ◌%◌, ◌≤◌, ◌<◌, length, if◌then◌else◌};
+ghost use Rattle.model.specs.Choice.{◌<?◌};
 ghost use Rattle.model.specs.Formats.{Depth};
 ghost use Rattle.model.specs.Pixel.{read_pixel, store_pixel};
 ghost use Rattle.model.specs.Raster.{raster};
@@ -115,7 +117,7 @@ pub fn put(depth: usize, f: &mut [u8], at: usize, value: u32)
 // ---- the raster operation
 
 // A raster code with a pattern value, made ready for any number of pixels. The four numbers are this crate's own affair.
-#[derive(Drop)]
+#[derive(Clone, Copy)]
 pub struct Operation {
     pub code: u32,
     pub pattern: u32,
@@ -191,7 +193,7 @@ pub fn paint(f: &mut [u8], op: Operation, depth: usize, at: usize, source: u32)
 // ---- blends
 
 // What becomes of a pixel: its bits where `keep` has 1, xor `flip`.
-#[derive(Drop)]
+#[derive(Clone, Copy)]
 pub struct Blend {
     pub flip: u32,
     pub keep: u32,

@@ -1,4 +1,6 @@
 // A rectangle of pixels in frame memory: where its pixels lie.
+#![tactic(auto)]
+
 ghost use Rattle.std.specs.Prelude.{◌≡◌, ◌+◌, ◌-◌, ◌/◌, ◌%◌, ◌^◌, ◌≤◌, ◌<◌};
 ghost use Rattle.model.specs.Bounds.{added, taken};
 ghost use Rattle.model.specs.Rectangle.{ahead, behind, pixel_byte, rectangle_extent};

@@ -1,4 +1,6 @@
 // The ring's arithmetic, and its words by wrapped position. Pointers are below the ring size.
+#![tactic(auto)]
+
 ghost use Rattle.std.specs.Prelude.{◌≡◌, ◌<◌, ◌≤◌, length};
 ghost use Rattle.model.specs.Refusals.{first};
 ghost use Rattle.model.specs.Ring.{distance, waiting, room, position_rules, word_at};

@@ -1,5 +1,7 @@
 // Row writers: lent the bytes of one row, they change each of its pixels, from the lowest up. One loop for each depth, so that
 // the compiler makes wide loads and stores of it.
+#![tactic(auto)]
+
 ghost use Rattle.std.specs.Prelude.{◌≡◌, ◌+◌, ◌-◌, ◌*◌, ◌/◌, ◌%◌, ◌≤◌, length};
 ghost use Rattle.model.specs.Formats.{Depth};
 ghost use Rattle.laws.specs.Order.{in_order};
@@ -168,14 +170,14 @@ fn wide2(v: u16) -> u32
 }
 
 // A blend of pixels of one byte.
-#[derive(Drop)]
+#[derive(Clone, Copy)]
 struct Blend1 {
     flip: u8,
     keep: u8,
 }
 
 // A blend of pixels of two bytes.
-#[derive(Drop)]
+#[derive(Clone, Copy)]
 struct Blend2 {
     flip: u16,
     keep: u16,

@@ -1,0 +1,12 @@
+use Rattle.laws.specs.Modular.{distance_ahead, distance_behind}
+use mathlib.Core.Path.{sym}
+use native.Mathlib.Omega.{arith}
+use Rattle.ring.proofs.gap.Goals as goal
+
+pub returns-then-from-to : goal.returns-then-from-to
+returns-then-from-to c = let a = c.args in
+    (sym (distance_ahead a.size a.from a.to (omega arith) (omega arith)), omega arith)
+
+pub returns : goal.returns
+returns c = let a = c.args in
+    (sym (distance_behind a.size a.from a.to (omega arith) (omega arith)), omega arith)

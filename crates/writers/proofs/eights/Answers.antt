@@ -1,0 +1,11 @@
+use Rattle.laws.specs.Pixels.{depth_last}
+use Rattle.writers.proofs.eights.Goals as goal
+
+pub returns-then-depth-eq1 : goal.returns-then-depth-eq1
+returns-then-depth-eq1 c = rw c.if-depth-eq1.true c.eights1.ensures
+
+pub returns-then-depth-eq2 : goal.returns-then-depth-eq2
+returns-then-depth-eq2 c = rw c.if-depth-eq2.true c.eights2.ensures
+
+pub returns : goal.returns
+returns c = rw (depth_last c.requires c.if-depth-eq1.false c.if-depth-eq2.false) c.eights4.ensures

@@ -1,0 +1,34 @@
+use Prim.Native.Nat.{◌+◌}
+use native.Mathlib.Omega.{arith}
+use Rattle.laws.specs.Order.{remain_all, remain_none}
+use Rattle.laws.specs.Changes.{change_next}
+use Rattle.laws.specs.Plain.{mark_rule}
+use Rattle.writers.proofs.tile.Goals as goal
+
+pub loop-i-init : goal.loop-i-init
+loop-i-init c = remain_all _
+
+pub overflow_add-a : goal.overflow_add-a
+overflow_add-a c = omega (arith, c.requires)
+
+pub get1-old-requires : goal.get1-old-requires
+get1-old-requires c = omega (arith, c.requires, c.loop-i.invariant.same)
+
+pub put1-requires : goal.put1-requires
+put1-requires c = omega (arith, c.requires, c.loop-i.invariant.same)
+
+pub overflow_add-i : goal.overflow_add-i
+overflow_add-i c = omega arith
+
+pub loop-i-smaller : goal.loop-i-smaller
+loop-i-smaller c = omega arith
+
+pub loop-i-preserved : goal.loop-i-preserved
+loop-i-preserved c = change_next 1 (mark_rule c.args.bits c.args.set.flip c.args.set.keep c.args.clear.flip c.args.clear.keep) c.args.at {at = c.args.at + c.loop-i.i} c.loop-i.invariant (omega (arith, c.loop-i-test.true)) (omega arith)
+    (rw (← c.pick-flip.ensures, ← c.pick-keep.ensures, ← c.get1-old.ensures) c.put1.ensures)
+
+pub shape_of-row : goal.shape_of-row
+shape_of-row c = c.loop-i.invariant.same
+
+pub returns : goal.returns
+returns c = remain_none c.loop-i.invariant (omega arith)
