@@ -1,5 +1,7 @@
 // The rows of a BLT, one after the other: n pixels from pixel k, by the row for its kind. Each kind has a loop of its own, so that
 // what it makes ready is made ready once, and for no other kind.
+#![tactic(auto)]
+
 ghost use Rattle.std.specs.Prelude.{◌≡◌, true, ◌+◌, ◌/◌, ◌%◌, ◌^◌, ◌<◌, length};
 ghost use Rattle.model.specs.declared.Pattern.TheVariants.{Solid, Mono};
 ghost use Rattle.model.specs.declared.Source.TheVariants.{Frame, Bits};
@@ -14,7 +16,7 @@ use model::{Blt, MonoPattern, MonoSource, Rectangle};
 // ---- a walk along the rows, which may begin and end within one
 
 // The column and the row that are next, and how many pixels are drawn.
-#[derive(Drop)]
+#[derive(Clone, Copy)]
 pub struct Walk {
     pub column: usize,
     pub row: usize,

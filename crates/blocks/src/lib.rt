@@ -1,6 +1,8 @@
 // Whole rows of a BLT, one after the other, from a pixel that begins a row. The bytes of each lie one step from those of the row
 // before, so nothing is worked out anew for a row. Each function says how many pixels it drew: none where it cannot begin, and
 // never the last ones that make no whole row.
+#![tactic(auto)]
+
 ghost use Rattle.std.specs.Prelude.{◌≡◌, true, ◌+◌, ◌%◌, ◌^◌, ◌≤◌, ◌<◌, length};
 ghost use Rattle.model.specs.BltPixel.{draw_blt};
 ghost use Rattle.model.specs.declared.Pattern.TheVariants.{Solid};

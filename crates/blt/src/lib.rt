@@ -1,4 +1,6 @@
 // A BLT: what its registers describe, and its pixels drawn row by row.
+#![tactic(auto)]
+
 ghost use Rattle.std.specs.Prelude.{◌≡◌, ◌+◌, ◌-◌, ◌≤◌, ◌<◌, length, ◌&&◌};
 ghost use Rattle.model.specs.Limits.{frame_most};
 ghost use Rattle.model.specs.Bits.{field};

@@ -1,5 +1,7 @@
 // Rows of a BLT with a solid pattern and a mono source, as text is: n pixels of row j, from column i. Eight pixels are drawn at once, by a
 // window of bits that is read before the first of them, wherever in a byte it begins.
+#![tactic(auto)]
+
 ghost use Rattle.std.specs.Prelude.{◌≡◌, true, ◌+◌, ◌-◌, ◌*◌, ◌/◌, ◌^◌, ◌≤◌, ◌<◌, length};
 ghost use Rattle.model.specs.Rectangle.{pixel_byte};
 ghost use Rattle.model.specs.declared.Pattern.TheVariants.{Solid};
@@ -12,7 +14,7 @@ use model::{Blt, MonoSource};
 use pixel::Blend;
 
 // What becomes of a pixel whose bit is set, and of one whose bit is clear.
-#[derive(Drop)]
+#[derive(Clone, Copy)]
 struct Inks {
     set: Blend,
     clear: Blend,

@@ -1,5 +1,7 @@
 // Rows that combine a source in frame memory with what stands there, under any raster operation: by pieces of 16 bytes, whose source
 // is read before the first of them is written. So the compiler combines a piece at once.
+#![tactic(auto)]
+
 ghost use Rattle.std.specs.Prelude.{◌≡◌, ◌+◌, ◌*◌, ◌/◌, ◌^◌, ◌≤◌, ◌<◌, length};
 ghost use Rattle.model.specs.Formats.{Depth};
 ghost use Rattle.model.specs.declared.Pattern.TheVariants.{Solid};

@@ -1,5 +1,7 @@
 // Rows of a BLT: n pixels of row j, from column i. One loop serves every source and pattern; faster ones stand beside it, behind
 // the same contract.
+#![tactic(auto)]
+
 ghost use Rattle.std.specs.Prelude.{◌≡◌, ◌^◌, ◌<◌, length};
 ghost use Rattle.model.specs.Pattern.{pattern_index};
 ghost use Rattle.model.specs.declared.Pattern.TheVariants.{Solid, Mono};

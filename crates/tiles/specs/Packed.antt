@@ -1,7 +1,7 @@
 -- Eight pixels of a row by stores of eight bytes: colours packed into words, and words into pairs.
-use Rattle.std.specs.Prelude.{ℕ, zero, suc, ◌+◌, ◌*◌, ◌/◌, ◌%◌, ◌^◌, ◌≤◌, ◌<◌, ◌≡◌, List, get_or, set}
+use Rattle.std.specs.Prelude.{ℕ, zero, suc, ◌+◌, ◌*◌, ◌/◌, ◌%◌, ◌^◌, ◌<◌, ◌≡◌, List, get_or, set}
 use Rattle.std.proofs.Math.Path.{refl}
-use Rattle.std.proofs.Common.{sym, ap, ◌∙◌, arith, mul-suc, mul_comm, mul_assoc, pow_pos, pow-add}
+use Rattle.std.proofs.Common.{ap, ◌∙◌, arith, mul-suc, mul_comm, mul_assoc, pow_pos, pow-add}
 use Rattle.std.proofs.Math.Arith.{mod-mul}
 use Rattle.model.specs.Pixel.{store_pixel}
 use Rattle.laws.specs.Order.{in_order}

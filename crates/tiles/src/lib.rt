@@ -1,4 +1,6 @@
 // Colour patterns: the tile in the lookup table, and rows of a BLT that has one.
+#![tactic(auto)]
+
 ghost use Rattle.std.specs.Prelude.{◌≡◌, [], ◌+◌, ◌*◌, ◌/◌, ◌%◌, ◌^◌, ◌≤◌, ◌<◌, length, get_or};
 ghost use Rattle.model.specs.Formats.{Depth};
 ghost use Rattle.model.specs.Lookup.{tile_color};
