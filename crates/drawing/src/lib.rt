@@ -1,4 +1,6 @@
 // What a command in progress draws: how many pixels it has, and its pixels.
+#![tactic(auto)]
+
 ghost use Rattle.std.specs.Prelude.{◌≡◌, ◌+◌, ◌*◌, ◌≤◌, length};
 ghost use Rattle.model.specs.Limits.{frame_most, side_most};
 ghost use Rattle.model.specs.Judging.{judge};

@@ -3,7 +3,8 @@ use Prim.Native.Nat.{ℕ}
 use mathlib.Core.Path.{◌≡◌, refl}
 use mathlib.Core.Bool.{Bool, true, false}
 use mathlib.Core.List.{List, ◌∷◌}
-use Rattle.model.specs.Refusals.{first, any, any_here, any_later}
+use Rattle.model.specs.Refusals.{first, any}
+use Rattle.model.proofs.Refusals.{any_here, any_later}
 use Rattle.model.specs.Calls.{bad_ring, bad_frame, setup_rules}
 
 pub lengths_bad : (rl fl : ℕ) (tests : List Bool) → (first (setup_rules rl fl) ≡ 0 → ⊥) → true ≡ any (bad_ring rl ∷ bad_frame fl ∷ tests)

@@ -5,8 +5,10 @@ use mathlib.Core.Bool.{Bool, true, false, not}
 use mathlib.Core.List.{List, [], ◌∷◌, ◌++◌}
 use mathlib.Core.Logic.{⊎_elim}
 use borrow.Author.Tests.{eqb-true, not-false, leb-false, lt-ltb, le-ltb, lt-leb, le-leb, ltb-false}
-use Rattle.model.specs.Choice.{◌<?◌, ◌≤?◌, not_both, neither}
-use Rattle.model.specs.Refusals.{any, any_none, first, positive, none_first}
+use Rattle.model.specs.Choice.{◌<?◌, ◌≤?◌}
+use Rattle.model.proofs.Choice.{not_both, neither}
+use Rattle.model.specs.Refusals.{any, first, positive}
+use Rattle.model.proofs.Refusals.{any_none, none_first}
 use Rattle.model.specs.Limits.{ring_least}
 use Rattle.model.specs.Registers.{format_code}
 use Rattle.model.specs.Formats.{Depth, format_of, depth_of}

@@ -1,4 +1,6 @@
 // Row 3: whether a state that comes in is one that the engine can have handed out.
+#![tactic(auto)]
+
 ghost use Rattle.std.specs.Prelude.{◌≡◌, ◌≤◌, ◌<◌};
 ghost use Rattle.model.specs.Refusals.{first, any};
 ghost use Rattle.model.specs.Limits.{ring_least};
@@ -115,7 +117,7 @@ fn bad_feed(c: Core, write: usize, k: usize, word: usize, feed: Feed) -> bool
     let length = 2 + count;
     let bad = command::bad_data_count(size, count);
     let back = command::bad_return(size, c.read, length, feed.returns);
-    let whole = command::whole_words_lem(size, c.read, length, feed.returns);
+    let whole = command::whole_words(size, c.read, length, feed.returns);
     let there = ring::waiting_words(size, c.read, write);
     if word < before {
         return true;

@@ -6,7 +6,9 @@ use mathlib.Core.List.{List, []}
 use native.Mathlib.Omega.{arith}
 use native.Mathlib.Nat.{zero-mul, mul-pos, mul-le-mul_left, div-mul-le_self}
 use lib.ListN.{length, get_or}
-use Rattle.model.specs.Choice.{◌<?◌, if◌then◌else◌, if_both}
+use Rattle.std.specs.Prelude.{if◌then◌else◌}
+use Rattle.model.specs.Choice.{◌<?◌}
+use Rattle.model.proofs.Choice.{if_both}
 use Rattle.model.specs.Pixel.{read_pixel}
 use Rattle.model.specs.Registers.{format_code, width}
 use Rattle.model.specs.Formats.{Depth, format_of, depth_of}
@@ -18,12 +20,12 @@ use Rattle.model.specs.declared.ColorPattern.{ColorPattern}
 use Rattle.model.specs.declared.ColorPattern.TheVariants.{Absent, Tile}
 use Rattle.laws.specs.Numbers.{column_add, row_add}
 use Rattle.laws.specs.Order.{in_order, order_same}
-use Rattle.laws.specs.Rows.{Row, Band, PixelOf, ByRows, Part, rows_part, rows_after, row_pixel}
+use Rattle.laws.specs.Rows.{ByRows, Part, rows_part, rows_after, row_pixel}
 use Rattle.laws.specs.Host.{ranged_host, stride_holds, pixels_in, pixels_in_lem}
-use Rattle.laws.specs.Tiles.{tile_of, color_in, color_in_lem, pixel_color}
+use Rattle.laws.specs.Tiles.{tile_of, color_in_lem, pixel_color}
 use Rattle.laws.specs.Pictures.{host_at, host_row, host_number, host_pixels, host_pixels_lem, value_in, length_from, word_bytes, read_word}
 use Rattle.host.specs.declared.Picture.{Picture}
-use Rattle.host.specs.Pictures.{picture_of, picture_with, tiled_at, tiled_row, tiled_number, tiled_pixels, drawn_from, Ranged, Held, PixelFed, RowFed, BandFed}
+use Rattle.host.specs.Pictures.{picture_of, picture_with, tiled_at, tiled_row, tiled_number, tiled_pixels, drawn_from, PixelFed, RowFed, BandFed}
 
 -- a row, and the rows after it, of pixels that are drawn by column and row
 pub rows_at : (at : ℕ → ℕ → List ℕ → List ℕ) → ((i j : ℕ) (frame : List ℕ) → length (at i j frame) ≡ length frame)

@@ -1,10 +1,9 @@
 -- A BLT with host source as its registers describe it, and what is asked where pixels of it are drawn.
-use Rattle.std.specs.Prelude.{ℕ, ◌+◌, ◌/◌, ◌%◌, ◌≤◌, ◌<◌, ◌≡◌, Bool, true, false, List, []}
+use Rattle.std.specs.Prelude.{ℕ, ◌+◌, ◌/◌, ◌%◌, ◌≤◌, ◌<◌, ◌≡◌, true, false, List, []}
 use Rattle.model.specs.Rectangle.{column_of, row_of}
 use Rattle.model.specs.BltPixel.{mono_mode, mono_source_of, blt_of, with_color}
 use Rattle.model.specs.Host.{host_of, host_byte, host_word, draw_host}
 use Rattle.model.specs.declared.ColorPattern.TheVariants.{Absent}
-use Rattle.model.specs.declared.Blt.{Blt}
 use Rattle.model.specs.declared.Host.{Host}
 use Rattle.laws.specs.Rows.{Row, Band, PixelOf}
 use Rattle.laws.specs.Order.{in_order}

@@ -1,7 +1,9 @@
 // Host sources: the pixels of a BLT that come through the ring, in the words of data commands. How they lie there, how many of them a
 // data command feeds, and rows and spans of them.
-ghost use Rattle.std.specs.Prelude.{◌≡◌, true, [], ℕ, ◌+◌, ◌-◌, ◌*◌, ◌%◌, ◌^◌, ◌≤◌, ◌<◌, length, get_or};
-ghost use Rattle.model.specs.Choice.{◌<?◌, if◌then◌else◌};
+#![tactic(auto)]
+
+ghost use Rattle.std.specs.Prelude.{◌≡◌, true, [], ℕ, ◌+◌, ◌-◌, ◌*◌, ◌%◌, ◌^◌, ◌≤◌, ◌<◌, length, get_or, if◌then◌else◌};
+ghost use Rattle.model.specs.Choice.{◌<?◌};
 ghost use Rattle.model.specs.Bits.{bit, field};
 ghost use Rattle.model.specs.Formats.{Depth, format_of, depth_of};
 ghost use Rattle.model.specs.Registers.{format_code};
@@ -170,7 +172,7 @@ pub fn row_rest(registers: [u32; REGISTERS], k: usize, n: usize) -> usize
 
 // A BLT with host source as its registers describe it: how its pixels lie in its data words, whether they are bits, and what becomes
 // of these.
-#[derive(Drop)]
+#[derive(Clone, Copy)]
 pub struct Picture {
     pub blt: Blt,
     pub host: Host,

@@ -1,4 +1,6 @@
 // Refusals 23 to 28 of what a command draws, on the registers as they would be after loading.
+#![tactic(auto)]
+
 ghost use Rattle.std.specs.Prelude.{◌≡◌, ◌&&◌};
 ghost use Rattle.model.specs.BltPixel.{source_outside};
 ghost use Rattle.model.specs.Judging.{refused_format, row23, channel3_further, row24_channel3, source_bits, mono_back, row24_source, row24, row25, judge};

@@ -1,9 +1,10 @@
 -- One turn of a run: the load of a command, or a span of pixels, takes as many units of the budget as it says.
-use Rattle.std.proofs.Common.{◌≡◌, ℕ, suc, ◌+◌, ◌-◌, ◌<◌, ◌≤◌, Bool, true, false, not, List, length, sym, refl, ap, ◌∙◌, add-zero, arith, ne_eqb, eqb-true}
+use Rattle.std.proofs.Common.{◌≡◌, ℕ, zero, suc, ◌+◌, ◌-◌, ◌<◌, ◌≤◌, Bool, true, false, not, List, length, sym, refl, ap, ◌∙◌, add-zero, arith, ne_eqb, eqb-true}
 use borrow.Author.Tests.{eqb-false}
-use Rattle.model.specs.Choice.{◌=?◌, not_both}
+use Rattle.model.specs.Choice.{◌=?◌}
+use Rattle.model.proofs.Choice.{not_both}
 use Rattle.model.specs.Host.{host_word}
-use Rattle.model.specs.Unit.{Machine, command_refusal, pixel_count, draw_pixel, drawn_core, unit, ready, drawing, possible, units, Done, done}
+use Rattle.model.specs.Unit.{Machine, command_refusal, pixel_count, draw_pixel, unit, ready, drawing, possible, units, Done, done}
 use Rattle.model.specs.Steps.{machine}
 use Rattle.model.specs.declared.Core.{Core}
 use Rattle.model.specs.declared.Feed.{Feed}
@@ -13,7 +14,7 @@ use Rattle.model.specs.declared.Place.TheVariants.{Drawing, Fed}
 use Rattle.laws.specs.Units.{unit_accepts, unit_refuses, idle_possible, units_zero, units_stop, units_step, units_each, units_shift}
 use Rattle.laws.specs.Fit.{drawing_fit, fed_fit}
 use Rattle.laws.specs.WellFormed.{WellFormed, wellformed_unit, wellformed_units, length_pixel, length_host}
-use Rattle.laws.specs.Order.{pixels, order_length}
+use Rattle.laws.specs.Order.{order_length}
 use Rattle.laws.specs.Spans.{drawn_machine, units_span, fed_machine, units_fed}
 use Rattle.units.specs.Turns.{FitCore, load_unit, table_unit, command_turn, command_table, Painted, FedOn, hosts, Advanced, Going, Plain, Stepped, Finished}
 use Rattle.units.specs.declared.Turn.{Turn}
@@ -82,6 +83,7 @@ module _ (ring : List ℕ) (w : ℕ) (m : Machine) (left : ℕ) {Sort : Type 0} 
 
   span_advances : WellFormed ring w m → (primitive : Primitive) (k n : ℕ) → m.core.place ≡ Drawing primitive k
       → 0 < n → n ≤ left → k + n ≤ pixel_count primitive m.core.registers → Advanced Sort ring w m (drawn_machine m primitive k n) left n
+  span_advances h primitive k zero p z l q = elim z [ ]
   span_advances h primitive k (suc n) p z l q =
       let running = (drawing_fit m.core w h.fit primitive k p).running in
       done_advances h n (drawn_machine m primitive k (suc n)) l (λ more used. units_span ring w n more used m primitive k running p q)
@@ -92,6 +94,7 @@ module _ (ring : List ℕ) (w : ℕ) (m : Machine) (left : ℕ) {Sort : Type 0} 
       → 0 < n → n ≤ left → k + n ≤ pixel_count Blt m.core.registers
       → ((x : ℕ) → x < n → host_word m.core.registers (k + x) < feed.before + feed.count)
       → Advanced Sort ring w m (fed_machine ring m k feed n) left n
+  fed_advances h k feed zero p z l q f = elim z [ ]
   fed_advances h k feed (suc n) p z l q f =
       let running = (fed_fit m.core w h.fit k feed p).pixel.running in
       done_advances h n (fed_machine ring m k feed (suc n)) l (λ more used. units_fed ring w n more used m k feed running p q f)

@@ -1,5 +1,5 @@
 -- What a fit place gives the code that draws pixels which a data command feeds.
-use Rattle.std.proofs.Common.{◌≡◌, ℕ, ◌+◌, ◌*◌, ◌/◌, ◌%◌, ◌<◌, ◌≤◌, false, arith}
+use Rattle.std.proofs.Common.{◌≡◌, ℕ, ◌+◌, ◌*◌, ◌%◌, ◌<◌, ◌≤◌, false, arith}
 use Rattle.model.specs.Limits.{ring_most, frame_most, side_most}
 use Rattle.model.specs.Registers.{format_code, width, height}
 use Rattle.model.specs.Formats.{Depth, format_of, depth_of}
@@ -17,7 +17,7 @@ use Rattle.laws.specs.HostWords.{no_straddle}
 use Rattle.laws.specs.Straddling.{in_word}
 use Rattle.laws.specs.Pictures.{colored_host}
 use Rattle.host.specs.declared.Picture.{Picture}
-use Rattle.host.specs.Pictures.{picture_of, Ranged, Held, BandFed}
+use Rattle.host.specs.Pictures.{picture_of, Ranged, BandFed}
 
 -- bytes a pixel of a BLT that judging accepts
 pub fit_deep : (c : Core) (k : ℕ) → FitPlace c Blt k → Depth (depth_of (format_of (format_code c.registers)))

@@ -1,12 +1,14 @@
 -- The load of a whole command, by what it draws.
 use Rattle.std.proofs.Common.{◌≡◌, ℕ, Bool, true, false, List, sym, refl, ap, ◌∙◌, arith, eq-eqb, ne_eqb, eqb-true}
-use Rattle.model.specs.Choice.{◌=?◌, if◌then◌else◌, not_both, if_both}
+use Rattle.std.specs.Prelude.{if◌then◌else◌}
+use Rattle.model.specs.Choice.{◌=?◌}
+use Rattle.model.proofs.Choice.{not_both, if_both}
 use Rattle.model.specs.Refusals.{first}
 use Rattle.model.specs.Completion.{retired}
 use Rattle.model.specs.Judging.{judge}
 use Rattle.model.specs.Command.{kind_of, is_data}
 use Rattle.model.specs.Host.{host_word}
-use Rattle.model.specs.Unit.{wants, pixels_drawn, header_at, loaded_at, command_refusal, ready, stopped, place_after, loaded_core, taken_core, accepted_core, table_after}
+use Rattle.model.specs.Unit.{wants, pixels_drawn, header_at, loaded_at, command_refusal, ready, stopped, place_after, loaded_core, taken_core, table_after}
 use Rattle.model.specs.declared.Core.{Core}
 use Rattle.model.specs.declared.Drawn.TheVariants.{Nothing, Draws}
 use Rattle.model.specs.declared.Kind.TheVariants.{Table, Data}

@@ -1,6 +1,6 @@
 -- What the functions of units are handed and answer.
-use Rattle.std.specs.Prelude.{◌≡◌, ℕ, ◌+◌, ◌-◌, ◌<◌, ◌≤◌, Bool, true, false, List, [], length}
-use Rattle.model.specs.Choice.{◌=?◌, if◌then◌else◌}
+use Rattle.std.specs.Prelude.{◌≡◌, ℕ, ◌+◌, ◌-◌, ◌<◌, ◌≤◌, Bool, true, false, List, [], length, if◌then◌else◌}
+use Rattle.model.specs.Choice.{◌=?◌}
 use Rattle.model.specs.Limits.{ring_least, ring_most, table_length}
 use Rattle.model.specs.Refusals.{first}
 use Rattle.model.specs.Lookup.{data_count}
@@ -8,7 +8,7 @@ use Rattle.model.specs.Command.{kind_of, is_data, count_word, data_length, drawn
 use Rattle.model.specs.Formats.{Depth, format_of, depth_of}
 use Rattle.model.specs.Registers.{format_code}
 use Rattle.model.specs.Host.{host_word, draw_host}
-use Rattle.model.specs.Unit.{Machine, wants, pixels_drawn, header_at, counted_at, length_at, returns_at, loaded_at, drawn_rules, command_refusal, ready, stopped, accepted_core, table_after, pixel_count, drawn_core, fed_word, fed_core, possible, units, done}
+use Rattle.model.specs.Unit.{Machine, pixels_drawn, header_at, counted_at, length_at, returns_at, loaded_at, drawn_rules, command_refusal, ready, stopped, accepted_core, table_after, pixel_count, drawn_core, fed_word, fed_core, possible, units, done}
 use Rattle.model.specs.Calls.{run_word}
 use Rattle.model.specs.declared.Core.{Core}
 use Rattle.model.specs.declared.Drawn.{Drawn}

@@ -1,5 +1,7 @@
 // Units of work: the load of a command, spans of pixels, and as many as a budget allows. The inner functions are handed the
 // core and the write pointer, not the state, and the lookup table is lent to them: no unit copies it.
+#![tactic(auto)]
+
 ghost use Rattle.std.specs.Prelude.{◌≡◌, ◌+◌, ◌*◌, ◌<◌, ◌≤◌, true, false, ◌||◌, length};
 ghost use Rattle.model.specs.Limits.{frame_most, side_most};
 ghost use Rattle.model.specs.Completion.{retired};
@@ -188,7 +190,7 @@ fn fed(c: Core, k: usize, feed: Feed) -> Core
 // ---- units
 
 // Units done in one go, and the core after them: none, one command's load or refusal, or a span of pixels.
-#[derive(Drop)]
+#[derive(Clone, Copy)]
 pub struct Turn {
     pub core: Core,
     pub used: u32,

@@ -7,7 +7,8 @@ use mathlib.Core.Logic.{◌⊎◌, inl, inr, ⊎_elim}
 use native.Mathlib.Omega.{arith}
 use native.Mathlib.Numerals.{add-one}
 use borrow.Author.Tests.{lt-ltb, le-ltb, le-leb, lt-leb, ltb-true, ltb-false}
-use Rattle.model.specs.Choice.{◌<?◌, true_or_false, not_both}
+use Rattle.model.specs.Choice.{◌<?◌}
+use Rattle.model.proofs.Choice.{true_or_false, not_both}
 use Rattle.model.specs.Bounds.{byte_outside, some, outside, first_byte, least, greatest, extent}
 use Rattle.model.specs.Formats.{Depth}
 use Rattle.model.specs.Pixel.{read_pixel, store_pixel}

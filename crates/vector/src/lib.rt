@@ -1,4 +1,6 @@
 // Vectors: the registers that describe one, the steps from pixel to pixel, the bytes that it reaches, and its drawing.
+#![tactic(auto)]
+
 ghost use Rattle.std.specs.Prelude.{◌≡◌, ◌||◌, ◌+◌, ◌^◌, ◌≤◌, ◌<◌, length, pos};
 ghost use Rattle.std.specs.Int.Signed.{lt_z};
 ghost use Rattle.model.specs.Limits.{frame_most, side_most};
