@@ -1,6 +1,6 @@
 -- Calls written as numbers.
-use Rattle.std.specs.Prelude.{ℕ, zero, suc, ◌+◌, List, [], ◌∷◌, get_or}
-use Rattle.model.specs.Choice.{◌=?◌, if◌then◌else◌}
+use Rattle.std.specs.Prelude.{ℕ, zero, suc, ◌+◌, List, [], ◌∷◌, get_or, if◌then◌else◌}
+use Rattle.model.specs.Choice.{◌=?◌}
 use Rattle.model.specs.Course.{Call, publishing, running, asking, restarting}
 
 -- 0 publishes the position, 1 runs with the budget, 2 asks for the room, any other restarts

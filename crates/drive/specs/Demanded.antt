@@ -5,8 +5,9 @@ use Rattle.model.specs.Calls.{publish}
 use Rattle.model.specs.Course.{Call, Configuration, course}
 use Rattle.model.specs.Perform.{performs, lent, start, Accepted, Fixed}
 use Rattle.model.specs.declared.State.{State}
-use Rattle.demands.specs.Courses.{performs_course}
-use Rattle.demands.specs.Demand3.{Along, Arrived, Demand3, demand3}
+use Rattle.demands.proofs.Courses.{performs_course}
+use Rattle.demands.specs.Demand3.{Along, Arrived, Demand3}
+use Rattle.demands.proofs.Demand3.{demand3}
 
 -- y is what these calls come to, all lent one ring
 pub record Demanded (ring : List ℕ) (s : State) (frame : List ℕ) (calls : List Call) (y : Configuration) : Type 0 where
@@ -17,7 +18,7 @@ pub record Demanded (ring : List ℕ) (s : State) (frame : List ℕ) (calls : Li
   pub arrives : (final : ℕ) → Fixed ring s frame → Accepted (publish s final) → Along ring s final calls (start s frame)
       → Arrived ring s frame final y
 
--- what performing the calls comes to is so: (a) is `performs-course`, (b) and (c) are demand 3
+-- what performing the calls comes to is so: (a) is `performs_course`, (b) and (c) are demand 3
 pub demanded : (ring : List ℕ) (s : State) (frame : List ℕ) (calls : List Call) (y : Configuration)
     → performs (lent ring calls) (start s frame) ≡ y → Demanded ring s frame calls y
 unfolding Demand3

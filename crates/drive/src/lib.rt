@@ -1,4 +1,6 @@
 // Demand 3 tied to the code: what a list of calls comes to, performed one after the other by the engine's public calls.
+#![tactic(auto)]
+
 ghost use Rattle.std.specs.Prelude.{◌≡◌, ◌≤◌, length};
 ghost use Rattle.model.specs.Calls.{units_of};
 ghost use Rattle.model.specs.Perform.{answer_of, frame_of, start};
@@ -8,7 +10,7 @@ ghost use Rattle.drive.specs.Demanded.{Demanded};
 use model::{Answer, Reply, State};
 
 // The state after a list of calls, and the sum of the units that they reported.
-#[derive(Drop)]
+#[derive(Clone, Copy)]
 pub struct Driven {
     pub state: State,
     pub sum: u64,

@@ -1,7 +1,9 @@
 // The five calls: setup, publish, run, restart and asking for room. Each answers, for every input whatever, what the
 // definition of its name in the crate `model` says.
-ghost use Rattle.std.specs.Prelude.{◌≡◌};
-ghost use Rattle.model.specs.Choice.{◌=?◌, if◌then◌else◌};
+#![tactic(auto)]
+
+ghost use Rattle.std.specs.Prelude.{◌≡◌, if◌then◌else◌};
+ghost use Rattle.model.specs.Choice.{◌=?◌};
 ghost use Rattle.model.specs.Refusals.{first};
 ghost use Rattle.model.specs.Calls.{publish_rules, run_rules, restart_rules, room_rules, fresh_state, accepted, refused, setup, publish, restart, ask_room, run, run_frame};
 ghost use Rattle.engine.specs.Answers.{InRing};
