@@ -1,8 +1,9 @@
 -- What a list of calls comes to from setup on.
-use Rattle.std.specs.Prelude.{ℕ, ◌≤◌, ◌≡◌, Bool, true, false, ◌&&◌, List, length}
+use Rattle.std.specs.Prelude.{ℕ, ◌≤◌, ◌≡◌, Bool, true, false, ◌&&◌, List, length, if◌then◌else◌}
 use Rattle.std.proofs.Math.Path.{refl}
 use Rattle.std.proofs.Common.{leb-true}
-use Rattle.model.specs.Choice.{◌≤?◌, if◌then◌else◌, both}
+use Rattle.model.specs.Choice.{◌≤?◌}
+use Rattle.model.proofs.Choice.{both}
 use Rattle.model.specs.Calls.{setup}
 use Rattle.model.specs.Course.{Configuration, course}
 use Rattle.model.specs.Perform.{lent, start}

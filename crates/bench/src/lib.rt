@@ -1,4 +1,6 @@
 // The engine for a program in another language to measure: functions with plain numbers and runs of bytes.
+#![tactic(auto)]
+
 ghost use Rattle.std.specs.Prelude.{◌≡◌};
 ghost use Rattle.recording.specs.Replay.{replay, replay_frame};
 ghost use Rattle.bench.specs.Numbers.{Told};

@@ -8,7 +8,7 @@ use lib.ListN.{length, take, drop, replicate, length-replicate}
 use lib.Seq.{take_at, length_front}
 use borrow.Author.Tests.{ne_eqb}
 use Rattle.io.specs.Counts.{IsPrefixLen}
-use Rattle.model.specs.Choice.{or_right}
+use Rattle.model.proofs.Choice.{or_right}
 use Rattle.model.specs.declared.Answer.{Answer}
 use Rattle.text.specs.Buffers.{Holds, holds}
 use Rattle.recording.specs.Parts.{part_length, take_zeros}

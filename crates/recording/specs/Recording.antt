@@ -1,10 +1,11 @@
 -- What `replay` and `frame` write of a recording, as a function of the file's bytes (document 01, Shop cases: "The replay
 -- program reads a recording ..").
-use Rattle.std.specs.Prelude.{ℕ, zero, suc, ◌+◌, ◌*◌, ◌≤◌, ◌<◌, ◌≡◌, refl, Bool, true, false, not, ◌||◌, List, [], ◌∷◌, ◌++◌, length, take, replicate}
+use Rattle.std.specs.Prelude.{ℕ, zero, suc, ◌+◌, ◌*◌, ◌≤◌, ◌<◌, ◌≡◌, refl, Bool, true, false, not, ◌||◌, List, [], ◌∷◌, ◌++◌, length, take, replicate, if◌then◌else◌}
 use Rattle.std.proofs.Common.{ap, arith, add-zero, eqb-true, length-take}
 use Rattle.std.proofs.lemmas.Bool.{not-false}
 use Rattle.io.specs.Counts.{IsPrefixLen}
-use Rattle.model.specs.Choice.{◌=?◌, if◌then◌else◌, neither}
+use Rattle.model.specs.Choice.{◌=?◌}
+use Rattle.model.proofs.Choice.{neither}
 use Rattle.model.specs.Pixel.{read_pixel}
 use Rattle.model.specs.Calls.{setup}
 use Rattle.model.specs.declared.Answer.{Answer}

@@ -1,8 +1,9 @@
 -- What the programs ask of the engine (document 01, Shop cases: the replay program).
-use Rattle.std.specs.Prelude.{ℕ, ◌≤◌, ◌≡◌, refl, Bool, true, false, not, ◌||◌, List, length}
+use Rattle.std.specs.Prelude.{ℕ, ◌≤◌, ◌≡◌, refl, Bool, true, false, not, ◌||◌, List, length, if◌then◌else◌}
 use Rattle.std.proofs.Common.{ltb-false}
 use Rattle.std.proofs.lemmas.Bool.{not-false}
-use Rattle.model.specs.Choice.{◌<?◌, ◌=?◌, if◌then◌else◌, neither, not_both}
+use Rattle.model.specs.Choice.{◌<?◌, ◌=?◌}
+use Rattle.model.proofs.Choice.{neither, not_both}
 use Rattle.model.specs.Calls.{number_of, setup, publish, run_refusal, ran_answer, run, run_frame}
 use Rattle.model.specs.declared.State.{State}
 use Rattle.model.specs.declared.RunWord.{RunWord}

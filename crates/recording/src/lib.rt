@@ -1,4 +1,6 @@
 // Recordings: the words of a file, and the replay of the calls that it asks for.
+#![tactic(auto)]
+
 ghost use Rattle.std.specs.Prelude.{◌≡◌, false, ◌+◌, ◌*◌, ◌≤◌, length, take, replicate};
 ghost use Rattle.io.specs.Counts.{IsPrefixLen};
 ghost use Rattle.text.specs.Buffers.{Holds, buffer_length};
@@ -33,7 +35,7 @@ pub fn word_at(file: &[u8], i: usize) -> u32
 }
 
 // A recording's first words.
-#[derive(Drop)]
+#[derive(Clone, Copy)]
 struct Head {
     ringlength: usize,
     framelength: usize,

@@ -32,7 +32,7 @@ run_name Stopped = ascii "stopped"
 run_name Waiting = ascii "waiting"
 run_name Spent = ascii "spent"
 
--- "state=refused"; else the run's word. (A replay does not end with a call that is accepted and is no run: law `ends-with-run`
+-- "state=refused"; else the run's word. (A replay does not end with a call that is accepted and is no run: law `ends_with_run`
 -- of `recording`.)
 abbrev pub state_name : Reply → List ℕ
 state_name (Refused number) = ascii "refused"

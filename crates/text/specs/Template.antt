@@ -1,7 +1,7 @@
 -- Text by a template with numbers as values: `#` stands for the next value in decimal, `{a|b|c}` for that one of a, b and c whose
 -- number, from 0 on, the next value is, and any other byte for itself. The alternatives that are passed take their values too.
-use Rattle.std.specs.Prelude.{ℕ, zero, suc, ◌||◌, List, [], ◌∷◌, ◌++◌, get_or, drop}
-use Rattle.model.specs.Choice.{◌≤?◌, ◌=?◌, if◌then◌else◌}
+use Rattle.std.specs.Prelude.{ℕ, zero, suc, ◌||◌, List, [], ◌∷◌, ◌++◌, get_or, drop, if◌then◌else◌}
+use Rattle.model.specs.Choice.{◌≤?◌, ◌=?◌}
 use Rattle.text.specs.Numerals.{decimal}
 
 -- how many values a byte takes: one where it is `#` or `{`

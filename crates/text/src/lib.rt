@@ -1,4 +1,6 @@
 // Text: the lines that the programs write of the engine's answers.
+#![tactic(auto)]
+
 ghost use Rattle.std.specs.Prelude.{◌≡◌, ◌+◌, ◌*◌, ◌≤◌, length, get_or};
 ghost use Rattle.text.specs.Numerals.{decimal, hexadecimal};
 ghost use Rattle.text.specs.Template.{takes, left_after, piece, filled};
@@ -129,7 +131,7 @@ fn fill(template: &[u8], values: &[u64], out: &mut [u8]) -> usize
 
 // An answer's parts. The kind counts as the call's line does: 0 accepted, 1 refused, 2 stopped, 3 waiting, 4 spent. The last
 // is the number that refused or stopped, or 0.
-#[derive(Drop)]
+#[derive(Clone, Copy)]
 pub struct Parts {
     pub kind: u64,
     pub number: u32,
@@ -180,7 +182,7 @@ pub fn parts_of(a: Answer) -> Parts
 }
 
 // What is being drawn: 0 nothing, 1 a BLT, 2 a vector, and how many of its pixels are drawn.
-#[derive(Drop)]
+#[derive(Clone, Copy)]
 struct Drawn {
     command: u64,
     pixels: u64,

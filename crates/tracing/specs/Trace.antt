@@ -1,13 +1,14 @@
 -- What `trace` writes, as a function of the file's bytes: little-endian words, ring length and frame length, then records of
 -- three words `op a b`.
-use Rattle.std.specs.Prelude.{ℕ, zero, suc, ◌+◌, ◌-◌, ◌≤◌, ◌<◌, ◌≡◌, Bool, true, false, not, ◌&&◌, ◌||◌, List, [], ◌∷◌, ◌++◌, length, take, drop, set, replicate}
+use Rattle.std.specs.Prelude.{ℕ, zero, suc, ◌+◌, ◌-◌, ◌≤◌, ◌<◌, ◌≡◌, Bool, true, false, not, ◌&&◌, ◌||◌, List, [], ◌∷◌, ◌++◌, length, take, drop, set, replicate, if◌then◌else◌}
 use Rattle.std.proofs.Math.Path.{refl, ap}
 use Rattle.std.proofs.Common.{sym, subst, ◌∙◌, append_assoc, append-nil, zero-add, length-append, take_at, drop_at, take_all}
 use native.Mathlib.Omega.{arith}
 use borrow.Author.Tests.{eq-eqb, ne_eqb, ltb-true, ltb-false, leb-false}
 use Rattle.std.proofs.lemmas.List.{length-replicate}
 use Rattle.io.specs.Counts.{IsPrefixLen}
-use Rattle.model.specs.Choice.{◌<?◌, ◌≤?◌, ◌=?◌, if◌then◌else◌, neither, not_both}
+use Rattle.model.specs.Choice.{◌<?◌, ◌≤?◌, ◌=?◌}
+use Rattle.model.proofs.Choice.{neither, not_both}
 use Rattle.model.specs.Calls.{setup, publish, run, run_frame, ask_room, restart}
 use Rattle.model.specs.declared.State.{State}
 use Rattle.model.specs.declared.Answer.{Answer}

@@ -1,4 +1,6 @@
 // Traces: setup, and one record after the other, each with its line.
+#![tactic(auto)]
+
 ghost use Rattle.std.specs.Prelude.{◌≡◌, ◌≤◌, length};
 ghost use Rattle.text.specs.Buffers.{Holds, buffer_length};
 ghost use Rattle.tracing.specs.Trace.{asked, asked_frame, bad_begin, bad_record, held, last_line, call_step, step_of, begin_of, Steps, Begins};
@@ -22,7 +24,7 @@ fn ask(op: u32, a: u32, s: State, ring: &[u32], frame: &mut [u8]) -> Answer
 }
 
 // What a part of a trace comes to: whether the trace goes on, the state then, and the length of the text that it writes.
-#[derive(Drop)]
+#[derive(Clone, Copy)]
 pub struct Step {
     pub more: bool,
     pub state: State,
