@@ -1,30 +1,32 @@
+use Rattle.std.proofs.Common.{arith}
+use Rattle.std.proofs.lemmas.Grind.{common_steps}
 use Rattle.model.specs.Refusals.{first}
 use Rattle.command.proofs.header_refusal.Goals as goal
 
 pub returns-then-bad : goal.returns-then-bad
 unfolding first
-returns-then-bad c = simp (← c.kind_of-kind.ensures, ← c.bad_header-bad.ensures, ← c.is_unwanted-unwanted.ensures, ← c.is_unasked-unasked.ensures, ← c.bad_table-table.ensures, ← c.bad_data-data.ensures, ← c.length_of-length.ensures.0, ← c.returns.ensures, ← c.bad_return-back.ensures, c.if-bad.true)
+returns-then-bad c = grind (arith, common_steps)
 
 pub returns-then-unwanted : goal.returns-then-unwanted
 unfolding first
-returns-then-unwanted c = simp (← c.kind_of-kind.ensures, ← c.bad_header-bad.ensures, ← c.is_unwanted-unwanted.ensures, ← c.is_unasked-unasked.ensures, ← c.bad_table-table.ensures, ← c.bad_data-data.ensures, ← c.length_of-length.ensures.0, ← c.returns.ensures, ← c.bad_return-back.ensures, c.if-bad.false, c.if-unwanted.true)
+returns-then-unwanted c = grind (arith, common_steps)
 
 pub returns-then-unasked : goal.returns-then-unasked
 unfolding first
-returns-then-unasked c = simp (← c.kind_of-kind.ensures, ← c.bad_header-bad.ensures, ← c.is_unwanted-unwanted.ensures, ← c.is_unasked-unasked.ensures, ← c.bad_table-table.ensures, ← c.bad_data-data.ensures, ← c.length_of-length.ensures.0, ← c.returns.ensures, ← c.bad_return-back.ensures, c.if-bad.false, c.if-unwanted.false, c.if-unasked.true)
+returns-then-unasked c = grind (arith, common_steps)
 
 pub returns-then-table : goal.returns-then-table
 unfolding first
-returns-then-table c = simp (← c.kind_of-kind.ensures, ← c.bad_header-bad.ensures, ← c.is_unwanted-unwanted.ensures, ← c.is_unasked-unasked.ensures, ← c.bad_table-table.ensures, ← c.bad_data-data.ensures, ← c.length_of-length.ensures.0, ← c.returns.ensures, ← c.bad_return-back.ensures, c.if-bad.false, c.if-unwanted.false, c.if-unasked.false, c.if-table.true)
+returns-then-table c = grind (arith, common_steps)
 
 pub returns-then-data : goal.returns-then-data
 unfolding first
-returns-then-data c = simp (← c.kind_of-kind.ensures, ← c.bad_header-bad.ensures, ← c.is_unwanted-unwanted.ensures, ← c.is_unasked-unasked.ensures, ← c.bad_table-table.ensures, ← c.bad_data-data.ensures, ← c.length_of-length.ensures.0, ← c.returns.ensures, ← c.bad_return-back.ensures, c.if-bad.false, c.if-unwanted.false, c.if-unasked.false, c.if-table.false, c.if-data.true)
+returns-then-data c = grind (arith, common_steps)
 
 pub returns-then-back : goal.returns-then-back
 unfolding first
-returns-then-back c = simp (← c.kind_of-kind.ensures, ← c.bad_header-bad.ensures, ← c.is_unwanted-unwanted.ensures, ← c.is_unasked-unasked.ensures, ← c.bad_table-table.ensures, ← c.bad_data-data.ensures, ← c.length_of-length.ensures.0, ← c.returns.ensures, ← c.bad_return-back.ensures, c.if-bad.false, c.if-unwanted.false, c.if-unasked.false, c.if-table.false, c.if-data.false, c.if-back.true)
+returns-then-back c = grind (arith, common_steps)
 
 pub returns : goal.returns
 unfolding first
-returns c = simp (← c.kind_of-kind.ensures, ← c.bad_header-bad.ensures, ← c.is_unwanted-unwanted.ensures, ← c.is_unasked-unasked.ensures, ← c.bad_table-table.ensures, ← c.bad_data-data.ensures, ← c.length_of-length.ensures.0, ← c.returns.ensures, ← c.bad_return-back.ensures, c.if-bad.false, c.if-unwanted.false, c.if-unasked.false, c.if-table.false, c.if-data.false, c.if-back.false)
+returns c = grind (arith, common_steps)
