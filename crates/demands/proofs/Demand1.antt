@@ -2,7 +2,7 @@
 use Prim.Native.Nat.{ℕ, ◌≤◌, ◌<◌}
 use Rattle.std.proofs.Math.Path.{◌≡◌, refl, sym}
 use Rattle.std.proofs.Common.{ap, subst, ◌∙◌, inl, inr, ⊎_elim, arith, eqb-true, eq-eqb, ne_eqb}
-use Rattle.std.specs.Prelude.{Bool, ◌||◌, ◌⊎◌, List, ◌∷◌, length}
+use Rattle.std.specs.Prelude.{Bool, ◌||◌, ◌⊎◌, List, ◌∷◌, length, Option, Some, None}
 use Rattle.std.proofs.Math.Bool.{true, false}
 use Rattle.std.proofs.lemmas.Bool.{eqb-false}
 use Rattle.model.specs.Choice.{◌=?◌}
@@ -19,8 +19,7 @@ use Rattle.model.specs.Course.{Call, publishing, running, asking, restarting, Co
 use Rattle.model.specs.Perform.{answer_of, perform, start, Accepted}
 use Rattle.model.specs.declared.Core.{Core}
 use Rattle.model.specs.declared.State.{State}
-use Rattle.model.specs.declared.Drawn.{Drawn}
-use Rattle.model.specs.declared.Drawn.TheVariants.{Nothing, Draws}
+use Rattle.model.specs.declared.Primitive.{Primitive}
 use Rattle.model.specs.declared.Place.TheVariants.{Idle}
 use Rattle.model.specs.declared.RunWord.{RunWord}
 use Rattle.model.specs.declared.RunWord.TheVariants.{Waiting}
@@ -132,12 +131,12 @@ later_each : (P : ℕ → Type 0) (rule : Rule) (rules : List Rule) → rule.app
 later_each P rule rules e h = subst P (first_later rule rules e refl) h
 
 module _ (ring : List ℕ) (c : Core) where
-  abbrev others : Drawn → List Rule
+  abbrev others : Option Primitive → List Rule
   others d = drawn_rules d (loaded_at ring c) c.framelength
 
-  others_each : (P : ℕ → Type 0) → P 23 → P 24 → P 25 → P 26 → P 27 → P 28 → (d : Drawn) → Each P (others d)
-  others_each P p q r s t u Nothing = tt
-  others_each P p q r s t u (Draws primitive) = (p, (q, (r, (s, (t, (u, tt))))))
+  others_each : (P : ℕ → Type 0) → P 23 → P 24 → P 25 → P 26 → P 27 → P 28 → (d : Option Primitive) → Each P (others d)
+  others_each P p q r s t u None = tt
+  others_each P p q r s t u (Some primitive) = (p, (q, (r, (s, (t, (u, tt))))))
 
   -- what they give is none of the header's
   of_header_lem : of_header (command_refusal ring c) ≡ true → GoodHeader ring c → ⊥

@@ -1,6 +1,6 @@
 -- What is proved of specs/Progress.
 use Prim.Native.Nat.{ℕ, zero, suc, ◌+◌, ◌-◌, ◌*◌, ◌/◌, ◌%◌, ◌≤◌, ◌<◌}
-use Rattle.std.specs.Prelude.{◌≡◌, Bool, true, false, ◌&&◌, ◌||◌, List, replicate, if◌then◌else◌}
+use Rattle.std.specs.Prelude.{◌≡◌, Bool, true, false, ◌&&◌, ◌||◌, List, replicate, if◌then◌else◌, Some, None}
 use Rattle.std.proofs.Math.Path.{refl, ap}
 use Rattle.std.proofs.Common.{sym, subst, ⊎_elim, mod-lt, mul-le-mul, div-add-mod', leb-true, leb-false, ltb-false, eqb-true}
 use native.Mathlib.Omega.{arith}
@@ -22,7 +22,6 @@ use Rattle.model.specs.Course.{Configuration}
 use Rattle.model.specs.Perform.{runs, total, Fixed}
 use Rattle.model.specs.declared.Core.{Core}
 use Rattle.model.specs.declared.State.{State}
-use Rattle.model.specs.declared.Drawn.TheVariants.{Nothing, Draws}
 use Rattle.model.specs.declared.Feed.{Feed}
 use Rattle.model.specs.declared.Kind.{Kind}
 use Rattle.model.specs.declared.Kind.TheVariants.{Blt, Vector, Table, Data}
@@ -86,7 +85,7 @@ drawn_share header counted registers = go (kind_of header)
     place primitive false e = omega (arith, pixels_most_lem primitive registers)
 
     drawn : (primitive : Primitive) (b : Bool)
-        → pixels_left registers (place_after (if b then Draws primitive else Nothing) registers) ≤ pixels_most primitive
+        → pixels_left registers (place_after (if b then Some primitive else None) registers) ≤ pixels_most primitive
     drawn primitive true = place primitive (takes_data primitive registers) refl
     drawn primitive false = omega arith
 

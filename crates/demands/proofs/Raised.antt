@@ -1,6 +1,6 @@
 -- What is proved of specs/Raised.
 use Prim.Native.Nat.{ℕ, zero, suc, ◌+◌, ◌-◌, ◌/◌, ◌%◌, ◌≤◌, ◌<◌}
-use Rattle.std.specs.Prelude.{◌≡◌, false, List, [], ◌∷◌, ◌++◌, set}
+use Rattle.std.specs.Prelude.{◌≡◌, false, List, [], ◌∷◌, ◌++◌, set, Option, Some, None}
 use Rattle.std.proofs.Math.Path.{refl, sym, ap}
 use Rattle.std.proofs.Common.{◌∙◌, suc-add, mod-lt, ltb-false, leb-false, le-ltb}
 use native.Mathlib.Omega.{arith}
@@ -18,17 +18,13 @@ use Rattle.model.specs.BltPixel.{source_value, mono_bit, with_pattern, with_sour
 use Rattle.model.specs.VectorPixel.{axial_step, diagonal_step, step, position, vector_byte, draw_vector}
 use Rattle.model.specs.declared.Axis.{Axis}
 use Rattle.model.specs.declared.Blt.{Blt as BltRecord}
-use Rattle.model.specs.declared.ColorPattern.{ColorPattern}
-use Rattle.model.specs.declared.ColorPattern.TheVariants.{Absent, Tile}
+use Rattle.model.specs.declared.TileOrigin.{TileOrigin}
 use Rattle.model.specs.declared.Operands.{Operands}
-use Rattle.model.specs.declared.Operands.TheVariants.{Nothing, Values}
 use Rattle.model.specs.declared.Pattern.{Pattern}
 use Rattle.model.specs.declared.Pattern.TheVariants.{Solid, Mono}
 use Rattle.model.specs.declared.Rectangle.{Rectangle}
 use Rattle.model.specs.declared.Source.{Source}
 use Rattle.model.specs.declared.Source.TheVariants.{Unselected, Frame, Bits}
-use Rattle.model.specs.declared.SourceValue.{SourceValue}
-use Rattle.model.specs.declared.SourceValue.TheVariants.{Transparent, Value}
 use Rattle.model.specs.declared.Vector.{Vector as VectorRecord}
 use Rattle.laws.specs.Some.{some_not, some_none}
 use Rattle.laws.specs.Ranges.{FitBlt, FitSource, FitVector}
@@ -66,11 +62,11 @@ module _ (before after : List ℕ) where
       rw (set_behind before (screen ++ after) at, set-append_left screen after at (value % 256) (omega arith), on)
       (store_on n (set screen at (value % 256)) (at + 1) (value / 256) (simp length-set (omega arith)))
 
-  operands_on : (depth code at : ℕ) (o : Operands) (screen : List ℕ) → at + depth ≤ length screen
+  operands_on : (depth code at : ℕ) (o : Option Operands) (screen : List ℕ) → at + depth ≤ length screen
       → draw_operands depth code (length before + at) o (around before after screen) ≡ around before after (draw_operands depth code at o screen)
   unfolding draw_operands
-  operands_on depth code at Nothing screen l = refl
-  operands_on depth code at (Values p s) screen l = rw (read_on depth screen at l) (store_on depth screen at _ l)
+  operands_on depth code at None screen l = refl
+  operands_on depth code at (Some o) screen l = rw (read_on depth screen at l) (store_on depth screen at _ l)
 
 -- ---- BLTs m bytes higher
 
@@ -80,17 +76,17 @@ unfolding pixel_byte
 byte_raised m p = let l = p.low in omega arith
 
 -- with the same pattern
-pattern_raised : (m : ℕ) (p : Pattern) (r : Rectangle) (i j : ℕ) (v : SourceValue) → with_source p (raised m r) i j v ≡ with_source p r i j v
+pattern_raised : (m : ℕ) (p : Pattern) (r : Rectangle) (i j : ℕ) (v : Option ℕ) → with_source p (raised m r) i j v ≡ with_source p r i j v
 unfolding with_source with_pattern mono_bit
-pattern_raised m p r i j Transparent = refl
-pattern_raised m (Solid color) r i j (Value source) = refl
-pattern_raised m (Mono mono) r i j (Value source) = refl
+pattern_raised m p r i j None = refl
+pattern_raised m (Solid color) r i j (Some source) = refl
+pattern_raised m (Mono mono) r i j (Some source) = refl
 
-tile_raised : (m : ℕ) (p : ColorPattern) (table : List ℕ) (b : BltRecord) (i j : ℕ)
+tile_raised : (m : ℕ) (p : Option TileOrigin) (table : List ℕ) (b : BltRecord) (i j : ℕ)
     → blt_at p table (raised_blt m b) i j ≡ raised_blt m (blt_at p table b i j)
 unfolding blt_at color_at
-tile_raised m Absent table b i j = refl
-tile_raised m (Tile row column) table b i j = refl
+tile_raised m None table b i j = refl
+tile_raised m (Some tile) table b i j = refl
 
 -- what lies inside a memory lies, m bytes higher, inside one that has m bytes more before it and some after it
 pub outside_raised : (m size more depth count offset : ℕ) (plus minus : ℕ → ℕ) → outside size depth count offset plus minus ≡ false
@@ -125,7 +121,7 @@ module _ (before screen after : List ℕ) where
       let at = pixel_byte m.bytes (byte_column m.skip i) j in
       rw (byte_raised (length before) here.reached, read_on before after 1 screen at (omega (arith, here.bytes_in, f.bytes_are)))
 
-  from_on : (b : BltRecord) {i j : ℕ} (v : SourceValue) → FitBlt (length screen) b → i < b.destination.columns.count
+  from_on : (b : BltRecord) {i j : ℕ} (v : Option ℕ) → FitBlt (length screen) b → i < b.destination.columns.count
       → j < b.destination.rows.count → draw_from (raised_blt (length before) b) i j v (around before after screen) ≡ around before after (draw_from b i j v screen)
   unfolding draw_from
   from_on b v f p q =
@@ -139,19 +135,19 @@ module _ (before screen after : List ℕ) where
   blt_on b f p q = rw (source_on b.source b.destination f.source_fit p q) (from_on b _ f p q)
 
 -- a BLT as a pixel sees it fits as the BLT does
-tile_fit : (size : ℕ) (p : ColorPattern) (table : List ℕ) (b : BltRecord) (i j : ℕ) → FitBlt size b → FitBlt size (blt_at p table b i j)
+tile_fit : (size : ℕ) (p : Option TileOrigin) (table : List ℕ) (b : BltRecord) (i j : ℕ) → FitBlt size b → FitBlt size (blt_at p table b i j)
 unfolding blt_at
-tile_fit size Absent table b i j f = f
-tile_fit size (Tile row column) table b i j f =
+tile_fit size None table b i j f = f
+tile_fit size (Some tile) table b i j f =
     record { destination_fit = f.destination_fit; source_fit = f.source_fit; pattern_fit = tt }
 
 -- and its destination is the BLT's
-tile_destination : (p : ColorPattern) (table : List ℕ) (b : BltRecord) (i j : ℕ) → (blt_at p table b i j).destination ≡ b.destination
+tile_destination : (p : Option TileOrigin) (table : List ℕ) (b : BltRecord) (i j : ℕ) → (blt_at p table b i j).destination ≡ b.destination
 unfolding blt_at
-tile_destination Absent table b i j = refl
-tile_destination (Tile row column) table b i j = refl
+tile_destination None table b i j = refl
+tile_destination (Some tile) table b i j = refl
 
-module _ (before screen after : List ℕ) (b : BltRecord) (f : FitBlt (length screen) b) (p : ColorPattern) (table : List ℕ) (k : ℕ)
+module _ (before screen after : List ℕ) (b : BltRecord) (f : FitBlt (length screen) b) (p : Option TileOrigin) (table : List ℕ) (k : ℕ)
     (l : k < pixels_of b.destination) where
   abbrev i : ℕ
   i = column_of b.destination k
@@ -177,7 +173,7 @@ module _ (before screen after : List ℕ) (b : BltRecord) (f : FitBlt (length sc
       ∙ blt_on before screen after c (tile_fit _ p table b i j f) column_in row_in
       ∙ sym (ap (λ (r : Rectangle). around before after (draw_at c (column_of r k) (row_of r k) screen)) e))
 
-  pub fed_on : (v : SourceValue)
+  pub fed_on : (v : Option ℕ)
       → draw_from (blt_at p table (raised_blt (length before) b) i j) i j v (around before after screen)
       ≡ around before after (draw_from (blt_at p table b i j) i j v screen)
   fed_on v =

@@ -1,17 +1,16 @@
 -- The pixels of a rectangle lie between the extremes of its two axes: its lowest byte lies `fall` below the offset, its highest
 -- `rise` above it. So some byte lies outside frame memory exactly when an extreme does.
 use Prim.Native.Nat.{ℕ, ◌+◌, ◌-◌, ◌*◌, ◌^◌, ◌≤◌, ◌<◌}
-use Rattle.std.specs.Prelude.{◌≡◌, refl, Bool, true, false}
+use Rattle.std.specs.Prelude.{◌≡◌, refl, Bool, true, false, None}
 use Rattle.std.proofs.Common.{ap, subst, ⊎_elim, mul-le-mul_right, add-le-add, zero-mul, mod-lt, add-mul, ltb-true, ltb-false, lt-ltb, le-ltb, le-leb}
 use native.Mathlib.Omega.{arith}
 use Rattle.std.proofs.lemmas.Bool.{lt-leb}
 use Rattle.model.specs.Choice.{◌<?◌}
 use Rattle.model.proofs.Choice.{true_or_false, not_both, or_left, or_right}
 use Rattle.model.specs.Limits.{frame_most, side_most}
-use Rattle.model.specs.Bounds.{added, taken, byte_outside, outside, first_byte, extent}
+use Rattle.model.specs.Bounds.{added, taken, byte_outside, outside, first_byte, extent, inside}
 use Rattle.model.specs.Rectangle.{ahead, behind, plus_at, minus_at, pixel_byte, named_byte, pixels_of, plus, minus, rectangle_outside, rectangle_extent}
 use Rattle.model.specs.declared.Axis.{Axis}
-use Rattle.model.specs.declared.Extent.TheVariants.{Inside, Outside}
 use Rattle.model.specs.declared.Rectangle.{Rectangle}
 use Rattle.laws.specs.Some.{some_at, some_none, least_is, greatest_is}
 use Rattle.laws.specs.Pixels.{depth_least, depth_most}
@@ -158,16 +157,16 @@ module _ (r : Rectangle) (ranged : Ranged r) where
 
     -- ---- its extent
 
-    pub extent_below : r.offset < fall r → rectangle_extent size r ≡ Outside
+    pub extent_below : r.offset < fall r → rectangle_extent size r ≡ None
     unfolding extent
     extent_below h = rw (low_out h)
 
-    pub extent_above : size ≤ r.offset + rise r → rectangle_extent size r ≡ Outside
+    pub extent_above : size ≤ r.offset + rise r → rectangle_extent size r ≡ None
     unfolding extent
     extent_above h = rw (high_out h)
 
     pub extent_in : fall r ≤ r.offset → r.offset + rise r < size
-        → rectangle_extent size r ≡ Inside (r.offset - fall r) (r.offset + rise r)
+        → rectangle_extent size r ≡ inside (r.offset - fall r) (r.offset + rise r)
     unfolding extent
     extent_in low high =
         let at : ℕ → ℕ = λ k. first_byte r.offset (plus r k) (minus r k) in

@@ -1,6 +1,6 @@
 -- What a fit state gives, and that every unit and every accepted call leaves a fit state.
 use Prim.Native.Nat.{ℕ, ◌+◌, ◌-◌, ◌≤◌, ◌<◌}
-use Rattle.std.specs.Prelude.{◌≡◌, Bool, ◌&&◌, ◌||◌, List, if◌then◌else◌}
+use Rattle.std.specs.Prelude.{◌≡◌, Bool, ◌&&◌, ◌||◌, List, if◌then◌else◌, Option, Some, None}
 use Rattle.std.proofs.Math.Path.{refl}
 use Rattle.std.proofs.Common.{ap, subst, arith, mod-lt, mul-pos}
 use Rattle.std.proofs.Math.Bool.{true, false, not}
@@ -26,8 +26,6 @@ use Rattle.model.proofs.Steps.{step_of}
 use Rattle.model.specs.Calls.{bad_ring, bad_frame, bad_stop, place_tests, unfit_tests, unfit, setup_rules, fresh_state, restarted}
 use Rattle.model.specs.declared.Core.{Core}
 use Rattle.model.specs.declared.State.{State}
-use Rattle.model.specs.declared.Drawn.{Drawn}
-use Rattle.model.specs.declared.Drawn.TheVariants.{Nothing, Draws}
 use Rattle.model.specs.declared.Feed.{Feed}
 use Rattle.model.specs.declared.Kind.{Kind}
 use Rattle.model.specs.declared.Kind.TheVariants.{Blt as BltKind, Vector as VectorKind, Table as TableKind, Data as DataKind}
@@ -224,9 +222,9 @@ pub command_rises : (ring : List ℕ) (c : Core) → rising 0 (command_rules rin
 unfolding rising
 command_rises ring c = go (drawn_by (header_at ring c))
   where
-    go : (d : Drawn) → rising (order 22) (drawn_rules d (loaded_at ring c) c.framelength) ≡ true
-    go Nothing = refl
-    go (Draws primitive) = refl
+    go : (d : Option Primitive) → rising (order 22) (drawn_rules d (loaded_at ring c) c.framelength) ≡ true
+    go None = refl
+    go (Some primitive) = refl
 
 -- and each may stand in the state
 pub command_stop : (ring : List ℕ) (c : Core) → bad_stop (command_refusal ring c) ≡ false
@@ -235,9 +233,9 @@ command_stop ring c =
     first_each (λ n. bad_stop n ≡ false) (command_rules ring c) refl
     (refl, (refl, (refl, (refl, (refl, (refl, go (drawn_by (header_at ring c))))))))
   where
-    go : (d : Drawn) → Each (λ n. bad_stop n ≡ false) (drawn_rules d (loaded_at ring c) c.framelength)
-    go Nothing = tt
-    go (Draws primitive) = (refl, (refl, (refl, (refl, (refl, (refl, tt))))))
+    go : (d : Option Primitive) → Each (λ n. bad_stop n ≡ false) (drawn_rules d (loaded_at ring c) c.framelength)
+    go None = tt
+    go (Some primitive) = (refl, (refl, (refl, (refl, (refl, (refl, tt))))))
 
 -- judging accepts no command without a pixel
 pub judged_pixels : (primitive : Primitive) (registers : List ℕ) (framelength : ℕ) → judge primitive registers framelength ≡ 0
@@ -303,12 +301,12 @@ module _ (ring : List ℕ) (c : Core) (accepted : command_refusal ring c ≡ 0) 
           let counted = counted_at ring c in
           (neither (not (data_type counted =? 0b000) || not (field counted 28 16 =? 0)) (bad_data_count c.ringlength (data_count counted)) e).1
 
-  pub accepted_judge : (primitive : Primitive) → drawn_by (header_at ring c) ≡ Draws primitive
+  pub accepted_judge : (primitive : Primitive) → drawn_by (header_at ring c) ≡ Some primitive
       → judge primitive (loaded_at ring c) c.framelength ≡ 0
   unfolding judge positive
   accepted_judge primitive d =
       (exactly (judge_rules primitive (loaded_at ring c) c.framelength) refl).not_given.1
-      (subst (λ (x : Drawn). NoRule (drawn_rules x (loaded_at ring c) c.framelength)) d no_rule.1.1.1.1.1.1)
+      (subst (λ (x : Option Primitive). NoRule (drawn_rules x (loaded_at ring c) c.framelength)) d no_rule.1.1.1.1.1.1)
 
 -- ---- units keep a state fit
 
@@ -336,7 +334,7 @@ fit_as c w fit d rings frames read stop place =
 
 -- where a command that judging accepts begins
 first_fit : (c : Core) (w : ℕ) (primitive : Primitive) → c.stop ≡ 0 → judge primitive c.registers c.framelength ≡ 0
-    → NoTest (place_tests c w (place_after (Draws primitive) c.registers))
+    → NoTest (place_tests c w (place_after (Some primitive) c.registers))
 first_fit c w Vector z j = parts_drawing c w Vector 0 (record { running = z; judged = j; within = judged_pixels Vector _ _ j }) refl
 first_fit c w Blt z j = go (from_host c.registers) refl
   where
@@ -370,9 +368,9 @@ module _ (ring : List ℕ) (c : Core) (w : ℕ) (fit : Fit c w) where
       fit_as c w fit _ refl refl (read_fit _ _ (length_at ring c) (returns_at ring c) size_some) fit.stop_fit
       (place (drawn_by (header_at ring c)) refl)
     where
-      place : (d : Drawn) → drawn_by (header_at ring c) ≡ d → NoTest (place_tests (loaded_core ring c) w (place_after d (loaded_at ring c)))
-      place Nothing d = tt
-      place (Draws primitive) d = first_fit (loaded_core ring c) w primitive z (accepted_judge ring c e primitive d)
+      place : (d : Option Primitive) → drawn_by (header_at ring c) ≡ d → NoTest (place_tests (loaded_core ring c) w (place_after d (loaded_at ring c)))
+      place None d = tt
+      place (Some primitive) d = first_fit (loaded_core ring c) w primitive z (accepted_judge ring c e primitive d)
 
   -- a data command: it is whole, so its words wait
   fit_taken : command_refusal ring c ≡ 0 → is_data (kind_of (header_at ring c)) ≡ true → ready ring c w ≡ true → Fit (taken_core ring c) w

@@ -1,6 +1,6 @@
 -- Rows of a BLT with a solid pattern and a mono source: each pixel's new value is a blend of its old one, by its bit, and
 -- up to eight pixels go by a window of bits that is read once.
-use Rattle.std.specs.Prelude.{ℕ, ◌+◌, ◌-◌, ◌*◌, ◌/◌, ◌%◌, ◌^◌, ◌≤◌, ◌<◌, ◌≡◌, refl, Bool, true, false, List, ◌⊎◌, if◌then◌else◌}
+use Rattle.std.specs.Prelude.{ℕ, ◌+◌, ◌-◌, ◌*◌, ◌/◌, ◌%◌, ◌^◌, ◌≤◌, ◌<◌, ◌≡◌, refl, Bool, true, false, List, ◌⊎◌, if◌then◌else◌, Some, None}
 use Rattle.std.proofs.Common.{sym, ap, ◌∙◌, inl, inr, ⊎_elim, arith, add-mul, mul-le-mul_right}
 use Rattle.model.specs.Bits.{bit}
 use Rattle.model.proofs.Bits.{bit_cases}
@@ -16,7 +16,6 @@ use Rattle.model.specs.declared.Blt.{Blt}
 use Rattle.model.specs.declared.MonoSource.{MonoSource}
 use Rattle.model.specs.declared.Pattern.TheVariants.{Solid}
 use Rattle.model.specs.declared.Source.TheVariants.{Bits}
-use Rattle.model.specs.declared.SourceValue.TheVariants.{Transparent, Value}
 use Rattle.laws.specs.Whole.{blended, flip_of, keep_of}
 use Rattle.laws.specs.Pixels.{Bytes, read_lt, read_same, store_below, store_above, store_bytes}
 use Rattle.laws.specs.Windows.{low_bit, joined, joined_bit}
@@ -63,7 +62,7 @@ ink_drawn b deep color s v f k at frame p =
   where
     clear : (nothing : Bool)
         → (if nothing then frame else drawn_with b color s.background at frame)
-        ≡ draw_operands b.destination.depth b.code at (solid_operands color (if nothing then Transparent else Value s.background)) frame
+        ≡ draw_operands b.destination.depth b.code at (solid_operands color (if nothing then None else Some s.background)) frame
     clear true = refl
     clear false = refl
 

@@ -1,6 +1,6 @@
 -- Any raster operation on a source in frame memory: where no byte of the source is met after it was overwritten, all of it may be
 -- read before the first pixel is drawn, and the pixels are drawn from the lowest byte up. Everything is over the byte count.
-use Rattle.std.specs.Prelude.{ℕ, zero, suc, ◌+◌, ◌-◌, ◌*◌, ◌/◌, ◌≤◌, ◌<◌, ◌≡◌, refl, Bool, true, false, List, ◌++◌, ◌⊎◌, length, get_or, take, drop}
+use Rattle.std.specs.Prelude.{ℕ, zero, suc, ◌+◌, ◌-◌, ◌*◌, ◌/◌, ◌≤◌, ◌<◌, ◌≡◌, refl, Bool, true, false, List, ◌++◌, ◌⊎◌, length, get_or, take, drop, Some}
 use Rattle.std.proofs.Math.Path.{sym}
 use Rattle.std.proofs.Common.{ap, ◌∙◌, inl, inr, ⊎_elim, arith, add_assoc}
 use Rattle.model.specs.Formats.{Depth}
@@ -12,7 +12,6 @@ use Rattle.model.specs.declared.Blt.{Blt}
 use Rattle.model.specs.declared.Pattern.TheVariants.{Solid}
 use Rattle.model.specs.declared.Rectangle.{Rectangle}
 use Rattle.model.specs.declared.Source.TheVariants.{Frame}
-use Rattle.model.specs.declared.SourceValue.TheVariants.{Value}
 use Rattle.laws.specs.Pixels.{Bytes, read_same, store_below, store_above, depth_least}
 use Rattle.laws.specs.Order.{in_order, order_zero, order_last, order_same}
 use Rattle.laws.specs.Ranges.{Matches}
@@ -114,7 +113,7 @@ pub record Ready (b : Blt) (s : Rectangle) (code pattern : ℕ) : Type 0 where
 
 -- what a pixel draws
 pub ready_drawn : {b : Blt} {s : Rectangle} {code pattern : ℕ} → Depth b.destination.depth → Ready b s code pattern → (x j : ℕ) (frame : List ℕ)
-    {at v : ℕ} → at ≡ pixel_byte b.destination x j → Value v ≡ source_value b.source x j frame
+    {at v : ℕ} → at ≡ pixel_byte b.destination x j → Some v ≡ source_value b.source x j frame
     → changed b.destination.depth (raster (8 * b.destination.depth) code pattern v) at frame ≡ draw_at b x j frame
 ready_drawn {b} deep y x j frame {at} {v} a e =
     ap (store_pixel b.destination.depth frame at) (rw (y.code_is, y.pattern_is) (raster_repeated deep b.code y.color v _))

@@ -1,7 +1,7 @@
 -- A copy: raster operation CCh gives the source, so a row whose source lies in frame memory is one move of bytes, where no byte of
 -- the source is met after it was overwritten. Everything is over the byte count.
 use Prim.Native.Nat.{ℕ, zero, suc, ◌+◌, ◌-◌, ◌*◌, ◌/◌, ◌%◌, ◌^◌, ◌≤◌, ◌<◌}
-use Rattle.std.specs.Prelude.{◌≡◌, Bool, not, List, ◌++◌, ◌⊎◌, length, set, take, drop, if◌then◌else◌}
+use Rattle.std.specs.Prelude.{◌≡◌, Bool, not, List, ◌++◌, ◌⊎◌, length, set, take, drop, if◌then◌else◌, None}
 use Rattle.std.proofs.Math.Path.{refl}
 use Rattle.std.proofs.Common.{sym, ap, ◌∙◌, ⊎_elim, zero-mul, add-one, length-drop, get_or-set_same, get_or-set_other, get_or-drop, ext_get_or}
 use Rattle.std.proofs.Math.Bool.{true, false}
@@ -17,10 +17,9 @@ use Rattle.model.specs.Pixel.{read_pixel, store_pixel}
 use Rattle.model.specs.Raster.{raster}
 use Rattle.model.proofs.Raster.{raster_source}
 use Rattle.model.specs.Rectangle.{pixel_byte}
-use Rattle.model.specs.Operands.{draw_operands}
+use Rattle.model.specs.Operands.{draw_operands, values}
 use Rattle.model.specs.BltPixel.{source_value, mono_bit, with_pattern, with_source, operands_at, draw_at}
 use Rattle.model.specs.declared.Blt.{Blt}
-use Rattle.model.specs.declared.Operands.TheVariants.{Nothing, Values}
 use Rattle.model.specs.declared.Pattern.{Pattern}
 use Rattle.model.specs.declared.Pattern.TheVariants.{Solid, Mono}
 use Rattle.model.specs.declared.Rectangle.{Rectangle}
@@ -207,13 +206,13 @@ is_full (Solid color) = true
 is_full (Mono p) = not p.transparent
 
 pub full_values : (p : Pattern) → is_full p ≡ true → (r : Rectangle) (i j source : ℕ)
-    → (v : ℕ) × (with_pattern p r i j source ≡ Values v source)
+    → (v : ℕ) × (with_pattern p r i j source ≡ values v source)
 unfolding with_pattern
 full_values (Solid color) e r i j source = (_, refl)
 full_values (Mono p) e r i j source = go (mono_bit p r i j =? 1) p.transparent e
   where
     go : (a b : Bool) → not b ≡ true
-        → (v : ℕ) × ((if a then Values p.color1 source else if b then Nothing else Values p.color0 source) ≡ Values v source)
+        → (v : ℕ) × ((if a then values p.color1 source else if b then None else values p.color0 source) ≡ values v source)
     go true b e = (_, refl)
     go false false e = (_, refl)
     go false true e = absurd (not_both false e refl)

@@ -1,5 +1,5 @@
 -- Pixels of a BLT with host source, by what its registers describe: one of them, a row, and a row that is copied out of the ring.
-use Rattle.std.specs.Prelude.{ℕ, zero, suc, ◌+◌, ◌-◌, ◌*◌, ◌/◌, ◌%◌, ◌^◌, ◌≤◌, ◌<◌, ◌≡◌, refl, Bool, true, false, List, [], ◌∷◌, length, get_or, if◌then◌else◌}
+use Rattle.std.specs.Prelude.{ℕ, zero, suc, ◌+◌, ◌-◌, ◌*◌, ◌/◌, ◌%◌, ◌^◌, ◌≤◌, ◌<◌, ◌≡◌, refl, Bool, true, false, List, [], ◌∷◌, length, get_or, if◌then◌else◌, Option, Some, None}
 use Rattle.std.proofs.Common.{sym, ap, ◌∙◌, arith, mod-lt, mod-eq_of_lt, suc-mul, add-mul, mul_assoc, mul_comm, shr-shr}
 use Rattle.std.proofs.Math.Nat.{mod-add-mod, zero-div}
 use Rattle.std.proofs.lemmas.Nat.{mod-pow-add}
@@ -14,12 +14,9 @@ use Rattle.model.specs.Operands.{draw_operands}
 use Rattle.model.specs.BltPixel.{rectangle_of, mono_mode, mono_source_of, color_pattern_of, blt_of, with_source, blt_at, draw_from}
 use Rattle.model.specs.Host.{bytes_from, host_of, host_byte, host_pixel, host_word, host_value, draw_host}
 use Rattle.model.specs.declared.Blt.{Blt}
-use Rattle.model.specs.declared.ColorPattern.{ColorPattern}
-use Rattle.model.specs.declared.ColorPattern.TheVariants.{Absent}
+use Rattle.model.specs.declared.TileOrigin.{TileOrigin}
 use Rattle.model.specs.declared.Host.{Host}
 use Rattle.model.specs.declared.MonoSource.{MonoSource}
-use Rattle.model.specs.declared.SourceValue.{SourceValue}
-use Rattle.model.specs.declared.SourceValue.TheVariants.{Value}
 use Rattle.laws.specs.Numbers.{column_add, row_add}
 use Rattle.laws.specs.Order.{in_order, order_same, order_last}
 use Rattle.laws.specs.Pixels.{Bytes, store_low, depth_least}
@@ -37,32 +34,32 @@ stream_word ring read before n = word_at ring read (2 + (n - before))
 -- a BLT, how its pixels lie in its data words, whether they are bits, and what becomes of these
 module _ (b : Blt) (h : Host) (mono : Bool) (m : MonoSource) where
   -- what its word gives the pixel at column i of row j
-  abbrev pub value_in : (i j word : ℕ) → SourceValue
+  abbrev pub value_in : (i j word : ℕ) → Option ℕ
   value_in i j word =
       if mono then expand m (bit (bytes_from 1 word (host_byte h i j % 4)) (bit_number m.skip i))
-      else Value (bytes_from b.destination.depth word (host_byte h i j % 4))
+      else Some (bytes_from b.destination.depth word (host_byte h i j % 4))
 
 -- the pixel there, of a BLT that has this colour pattern, where `words` gives the data words by their numbers
-abbrev pub host_at : ColorPattern → (table : List ℕ) → Blt → Host → Bool → MonoSource → (ℕ → ℕ) → (i j : ℕ) → List ℕ → List ℕ
+abbrev pub host_at : Option TileOrigin → (table : List ℕ) → Blt → Host → Bool → MonoSource → (ℕ → ℕ) → (i j : ℕ) → List ℕ → List ℕ
 host_at p table b h mono m words i j =
     draw_from (blt_at p table b i j) i j (value_in b h mono m i j (words (host_byte h i j / 4)))
 
 -- n pixels of row j from column i, and n pixels from number k
-abbrev pub host_row : ColorPattern → (table : List ℕ) → Blt → Host → Bool → MonoSource → (ℕ → ℕ) → (i j n : ℕ) → List ℕ → List ℕ
+abbrev pub host_row : Option TileOrigin → (table : List ℕ) → Blt → Host → Bool → MonoSource → (ℕ → ℕ) → (i j n : ℕ) → List ℕ → List ℕ
 host_row p table b h mono m words i j n = in_order (λ x. host_at p table b h mono m words x j) i n
 
-abbrev pub host_number : ColorPattern → (table : List ℕ) → Blt → Host → Bool → MonoSource → (ℕ → ℕ) → ℕ → List ℕ → List ℕ
+abbrev pub host_number : Option TileOrigin → (table : List ℕ) → Blt → Host → Bool → MonoSource → (ℕ → ℕ) → ℕ → List ℕ → List ℕ
 host_number p table b h mono m words k = host_at p table b h mono m words (column_of b.destination k) (row_of b.destination k)
 
-abbrev pub host_pixels : ColorPattern → (table : List ℕ) → Blt → Host → Bool → MonoSource → (ℕ → ℕ) → (k n : ℕ) → List ℕ → List ℕ
+abbrev pub host_pixels : Option TileOrigin → (table : List ℕ) → Blt → Host → Bool → MonoSource → (ℕ → ℕ) → (k n : ℕ) → List ℕ → List ℕ
 host_pixels p table b h mono m words = in_order (host_number p table b h mono m words)
 
-pub length_from : (b : Blt) (i j : ℕ) (v : SourceValue) (frame : List ℕ) → length (draw_from b i j v frame) ≡ length frame
+pub length_from : (b : Blt) (i j : ℕ) (v : Option ℕ) (frame : List ℕ) → length (draw_from b i j v frame) ≡ length frame
 unfolding draw_from
 length_from b i j v frame = length_operands _ _ _ _ frame
 
 -- a row is a part of the whole
-pub host_row_lem : (p : ColorPattern) (table : List ℕ) (b : Blt) (h : Host) (mono : Bool) (m : MonoSource) (words : ℕ → ℕ) (k n : ℕ) (frame : List ℕ)
+pub host_row_lem : (p : Option TileOrigin) (table : List ℕ) (b : Blt) (h : Host) (mono : Bool) (m : MonoSource) (words : ℕ → ℕ) (k n : ℕ) (frame : List ℕ)
     → column_of b.destination k + n ≤ b.destination.columns.count
     → host_row p table b h mono m words (column_of b.destination k) (row_of b.destination k) n frame
     ≡ host_pixels p table b h mono m words k n frame
@@ -210,7 +207,7 @@ module _ {size : ℕ} {b : Blt} {i j n : ℕ} (r : Row size b i j n) (z : 0 < n)
       rw (on, a, word_on ring read (2 + (at / 4 - before)) q place p k, bytes_from_lem deep, e) (sym (read_word depth ring (place + q) ((at + x * depth) % 4) v))
 
   pixel_in : (table : List ℕ) (m : MonoSource) (x : ℕ) → x < n → (next : List ℕ)
-      → host_at Absent table b h false m (stream_word ring read before) (i + x) j next
+      → host_at None table b h false m (stream_word ring read before) (i + x) j next
       ≡ store_pixel depth next (to + x * depth) (read_pixel depth (word_bytes ring) (from + x * depth))
   unfolding draw_from blt_at with_source draw_operands
   pixel_in table m x l next =
@@ -220,7 +217,7 @@ module _ {size : ℕ} {b : Blt} {i j n : ℕ} (r : Row size b i j n) (z : 0 < n)
 
   pub host_copied : (table : List ℕ) (m : MonoSource) (frame : List ℕ) → length frame ≡ size → {next : List ℕ}
       → Laid (word_bytes ring) from to 0 (n * depth) frame next
-      → next ≡ host_row Absent table b h false m (stream_word ring read before) i j n frame
+      → next ≡ host_row None table b h false m (stream_word ring read before) i j n frame
   host_copied table m frame s laid =
       laid_one laid
       (laid_all depth from to n i (word_bytes ring) frame _ (word_bytes_lem ring) (omega (arith, bytes_in (destination_span r z) t)) (pixel_in table m))

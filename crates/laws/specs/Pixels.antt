@@ -1,12 +1,11 @@
 -- Pixels of n bytes: facts about depth, once over the byte count.
-use Rattle.std.specs.Prelude.{ℕ, zero, suc, ◌+◌, ◌-◌, ◌*◌, ◌/◌, ◌%◌, ◌^◌, ◌≤◌, ◌<◌, ◌≡◌, refl, ◌||◌, List, [], ◌∷◌, length, get_or, set}
+use Rattle.std.specs.Prelude.{ℕ, zero, suc, ◌+◌, ◌-◌, ◌*◌, ◌/◌, ◌%◌, ◌^◌, ◌≤◌, ◌<◌, ◌≡◌, refl, ◌||◌, List, [], ◌∷◌, length, get_or, set, Option}
 use Rattle.std.proofs.Common.{sym, ap, ◌∙◌, arith, mul-suc, add-suc, mod-lt, pow_pos, pow-add, length-set, get_or-set_same, get_or-set_other}
 use Rattle.std.proofs.Math.Arith.{mod-mul}
 use Rattle.model.proofs.Bits.{low_split}
 use Rattle.model.specs.Choice.{◌=?◌}
 use Rattle.model.proofs.Choice.{if_both}
 use Rattle.model.specs.Formats.{Depth, format_of, depth_of}
-use Rattle.model.specs.declared.Format.{Format}
 use Rattle.model.specs.Pixel.{read_pixel, store_pixel}
 use Rattle.model.specs.Raster.{raster}
 use Rattle.model.proofs.Raster.{raster_odd, raster_half}
@@ -31,7 +30,7 @@ depth_most Depth.four = omega arith
 pub depth_of_most : (code : ℕ) → depth_of (format_of code) ≤ 4
 unfolding format_of
 depth_of_most code =
-    let Most : Format → Type 0 = λ x. depth_of x ≤ 4 in
+    let Most : Option ℕ → Type 0 = λ x. depth_of x ≤ 4 in
     if_both Most (code =? 0b0000) (omega arith)
     (if_both Most (code =? 0b0100 || code =? 0b0101 || code =? 0b0110) (omega arith) (if_both Most (code =? 0b1000) (omega arith) (omega arith)))
 

@@ -1,5 +1,5 @@
 -- Rows of a BLT for which one value serves as the source of every pixel: each pixel's new value is a rule of its old one.
-use Rattle.std.specs.Prelude.{ℕ, ◌+◌, ◌-◌, ◌*◌, ◌/◌, ◌%◌, ◌^◌, ◌≤◌, ◌<◌, ◌≡◌, refl, Bool, true, false, not, ◌||◌, List, ◌⊎◌, if◌then◌else◌}
+use Rattle.std.specs.Prelude.{ℕ, ◌+◌, ◌-◌, ◌*◌, ◌/◌, ◌%◌, ◌^◌, ◌≤◌, ◌<◌, ◌≡◌, refl, Bool, true, false, not, ◌||◌, List, ◌⊎◌, if◌then◌else◌, Some, None}
 use Rattle.std.proofs.Common.{sym, ◌∙◌, inl, inr, ⊎_elim, arith, mod-eq_of_lt, eqb-true}
 use Rattle.std.proofs.Math.Path.{ap}
 use Rattle.std.proofs.Math.Nat.{mod-mod}
@@ -13,16 +13,14 @@ use Rattle.model.specs.Raster.{raster}
 use Rattle.model.proofs.Raster.{raster_pattern, raster_pattern_xor}
 use Rattle.model.specs.Rectangle.{pixel_byte}
 use Rattle.model.specs.Pattern.{pattern_bit, pattern_index}
-use Rattle.model.specs.Operands.{draw_operands}
+use Rattle.model.specs.Operands.{draw_operands, values}
 use Rattle.model.specs.Expansion.{source_bit, inverted, expand}
 use Rattle.model.specs.BltPixel.{source_value, mono_bit, with_pattern, with_source, operands_at, draw_at}
 use Rattle.model.specs.declared.Blt.{Blt}
 use Rattle.model.specs.declared.MonoPattern.{MonoPattern}
-use Rattle.model.specs.declared.Operands.TheVariants.{Nothing, Values}
 use Rattle.model.specs.declared.Pattern.TheVariants.{Solid, Mono}
 use Rattle.model.specs.declared.Source.{Source}
 use Rattle.model.specs.declared.Source.TheVariants.{Unselected, Frame, Bits}
-use Rattle.model.specs.declared.SourceValue.TheVariants.{Transparent, Value}
 use Rattle.laws.specs.Whole.{blended, flip_of, keep_of, raster_blended, blended_low, blended_all}
 use Rattle.laws.specs.Pixels.{Bytes, store_low, store_raster, read_lt, store_read}
 use Rattle.laws.specs.Windows.{low_bit}
@@ -37,7 +35,7 @@ use Rattle.laws.specs.Eights.{Round}
 -- a value that gives every pixel what its own source value gives
 pub record Plain (code : ℕ) (s : Source) (value : ℕ) : Type 0 where
   pub serves : (i j : ℕ) (frame : List ℕ)
-      → (v : ℕ) × (source_value s i j frame ≡ Value v) × ((m p d : ℕ) → raster m code p v d ≡ raster m code p value d)
+      → (v : ℕ) × (source_value s i j frame ≡ Some v) × ((m p d : ℕ) → raster m code p v d ≡ raster m code p value d)
 
 -- there is one
 abbrev pub Served : ℕ → Source → Type 0
@@ -49,13 +47,13 @@ is_opaque (Unselected color) = true
 is_opaque (Frame r) = true
 is_opaque (Bits m) = not m.transparent
 
-opaque_value : (s : Source) (i j : ℕ) (frame : List ℕ) → is_opaque s ≡ true → (v : ℕ) × (source_value s i j frame ≡ Value v)
+opaque_value : (s : Source) (i j : ℕ) (frame : List ℕ) → is_opaque s ≡ true → (v : ℕ) × (source_value s i j frame ≡ Some v)
 unfolding source_value expand
 opaque_value (Unselected color) i j frame e = (_, refl)
 opaque_value (Frame r) i j frame e = (_, refl)
 opaque_value (Bits m) i j frame e = go (inverted m.inversion (source_bit m i j frame) =? 1) m.transparent e
   where
-    go : (a b : Bool) → not b ≡ true → (v : ℕ) × ((if a then Value m.foreground else if b then Transparent else Value m.background) ≡ Value v)
+    go : (a b : Bool) → not b ≡ true → (v : ℕ) × ((if a then Some m.foreground else if b then None else Some m.background) ≡ Some v)
     go true b e = (_, refl)
     go false false e = (_, refl)
     go false true e = absurd (not_both false e refl)
@@ -260,12 +258,12 @@ module _ (b : Blt) {value : ℕ} (plain : Plain b.code b.source value) {p : Mono
   unfolding draw_at operands_at with_source with_pattern draw_operands
   mono_drawn i j frame = rw (mono, v.1) (go (mono_bit p b.destination i j =? 1) p.transparent)
     where
-      v : (v : ℕ) × (source_value b.source i j frame ≡ Value v) × ((m p d : ℕ) → raster m b.code p v d ≡ raster m b.code p value d)
+      v : (v : ℕ) × (source_value b.source i j frame ≡ Some v) × ((m p d : ℕ) → raster m b.code p v d ≡ raster m b.code p value d)
       v = plain.serves i j frame
 
       go : (set nothing : Bool)
           → draw_operands b.destination.depth b.code (pixel_byte b.destination i j)
-          (if set then Values p.color1 v.0 else if nothing then Nothing else Values p.color0 v.0) frame
+          (if set then values p.color1 v.0 else if nothing then None else values p.color0 v.0) frame
           ≡ (if set then drawn_with b p.color1 value (pixel_byte b.destination i j) frame
           else if nothing then frame
           else drawn_with b p.color0 value (pixel_byte b.destination i j) frame)

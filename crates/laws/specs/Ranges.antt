@@ -1,5 +1,5 @@
 -- The ranges that the registers' fields give, and what judging accepts, as facts on rectangles, BLTs and vectors.
-use Rattle.std.specs.Prelude.{ℕ, ◌+◌, ◌-◌, ◌*◌, ◌^◌, ◌≤◌, ◌<◌, ◌≡◌, Bool, true, ◌||◌, List, pos, if◌then◌else◌}
+use Rattle.std.specs.Prelude.{ℕ, ◌+◌, ◌-◌, ◌*◌, ◌^◌, ◌≤◌, ◌<◌, ◌≡◌, Bool, true, ◌||◌, List, pos, if◌then◌else◌, Some, None}
 use Rattle.std.proofs.Math.Path.{refl}
 use Rattle.std.proofs.Math.Bool.{false}
 use native.Mathlib.Omega.{arith}
@@ -19,7 +19,6 @@ use Rattle.model.specs.BltPixel.{rectangle_of, mono_mode, bytes_of, mono_source_
 use Rattle.model.specs.VectorPixel.{vector_of, vector_outside}
 use Rattle.model.specs.Judging.{judge, judge_rules, refused_format, row23, row25, row26}
 use Rattle.model.specs.declared.Blt.{Blt}
-use Rattle.model.specs.declared.Format.TheVariants.{Bytes, Refused}
 use Rattle.model.specs.declared.MonoSource.{MonoSource}
 use Rattle.model.specs.declared.Pattern.{Pattern}
 use Rattle.model.specs.declared.Pattern.TheVariants.{Solid, Mono}
@@ -120,8 +119,8 @@ format_depth : (code : ℕ) → refused_format (format_of code) ≡ false → De
 unfolding format_of
 format_depth code = go (code =? 0) (code =? 4 || code =? 5 || code =? 6) (code =? 8)
   where
-    go : (a b c : Bool) → refused_format (if a then Bytes 1 else if b then Bytes 2 else if c then Bytes 4 else Refused) ≡ false
-        → Depth (depth_of (if a then Bytes 1 else if b then Bytes 2 else if c then Bytes 4 else Refused))
+    go : (a b c : Bool) → refused_format (if a then Some 1 else if b then Some 2 else if c then Some 4 else None) ≡ false
+        → Depth (depth_of (if a then Some 1 else if b then Some 2 else if c then Some 4 else None))
     go true b c e = Depth.one
     go false true c e = Depth.two
     go false false true e = Depth.four

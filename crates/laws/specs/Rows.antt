@@ -1,12 +1,12 @@
 -- Pixels of one row of a BLT: where they lie, what one of them draws, and a row as a part of the whole.
-use Rattle.std.specs.Prelude.{ℕ, ◌+◌, ◌-◌, ◌*◌, ◌%◌, ◌^◌, ◌≤◌, ◌<◌, ◌≡◌, refl, List, length}
+use Rattle.std.specs.Prelude.{ℕ, ◌+◌, ◌-◌, ◌*◌, ◌%◌, ◌^◌, ◌≤◌, ◌<◌, ◌≡◌, refl, List, length, Option, Some, None}
 use Rattle.std.proofs.Common.{sym, ap, ◌∙◌, arith, mod-lt}
 use Rattle.model.specs.Limits.{frame_most}
 use Rattle.model.specs.Formats.{Depth}
 use Rattle.model.specs.Pixel.{read_pixel, store_pixel}
 use Rattle.model.specs.Raster.{raster}
 use Rattle.model.specs.Rectangle.{ahead, behind, pixel_byte, column_of, row_of, pixels_of}
-use Rattle.model.specs.Operands.{draw_operands}
+use Rattle.model.specs.Operands.{draw_operands, values}
 use Rattle.model.specs.Bits.{bit}
 use Rattle.model.specs.Expansion.{byte_column, bit_number, source_bit, expand}
 use Rattle.model.specs.BltPixel.{source_value, with_pattern, with_source, operands_at, draw_at, draw_blt}
@@ -14,13 +14,10 @@ use Rattle.model.specs.declared.Axis.{Axis}
 use Rattle.model.specs.declared.Blt.{Blt}
 use Rattle.model.specs.declared.MonoSource.{MonoSource}
 use Rattle.model.specs.declared.Operands.{Operands}
-use Rattle.model.specs.declared.Operands.TheVariants.{Nothing, Values}
 use Rattle.model.specs.declared.Pattern.TheVariants.{Solid}
 use Rattle.model.specs.declared.Rectangle.{Rectangle}
 use Rattle.model.specs.declared.Source.{Source}
 use Rattle.model.specs.declared.Source.TheVariants.{Unselected, Frame, Bits}
-use Rattle.model.specs.declared.SourceValue.{SourceValue}
-use Rattle.model.specs.declared.SourceValue.TheVariants.{Transparent, Value}
 use Rattle.laws.specs.Pixels.{length_store}
 use Rattle.laws.specs.Order.{in_order, blt_pixels, order_same, order_length, Remain, remain_all, remain_add}
 use Rattle.laws.specs.Ranges.{Matches, FitBits, FitSource, FitBlt, area_most}
@@ -87,10 +84,10 @@ module _ {size : ℕ} {b : Blt} {i j : ℕ} (p : PixelOf size b i j) where
 
 -- ---- what a pixel draws
 
-pub length_operands : (depth code at : ℕ) (o : Operands) (frame : List ℕ) → length (draw_operands depth code at o frame) ≡ length frame
+pub length_operands : (depth code at : ℕ) (o : Option Operands) (frame : List ℕ) → length (draw_operands depth code at o frame) ≡ length frame
 unfolding draw_operands
-length_operands depth code at Nothing frame = refl
-length_operands depth code at (Values p s) frame = length_store depth frame at _
+length_operands depth code at None frame = refl
+length_operands depth code at (Some o) frame = length_store depth frame at _
 
 pub length_at : (b : Blt) (i j : ℕ) (frame : List ℕ) → length (draw_at b i j frame) ≡ length frame
 unfolding draw_at
@@ -101,34 +98,34 @@ unfolding draw_blt
 length_drawn b k frame = length_at b _ _ frame
 
 -- what a solid pattern's colour and a source give
-abbrev pub solid_operands : ℕ → SourceValue → Operands
-solid_operands color Transparent = Nothing
-solid_operands color (Value v) = Values color v
+abbrev pub solid_operands : ℕ → Option ℕ → Option Operands
+solid_operands color None = None
+solid_operands color (Some v) = values color v
 
-solid_operands_lem : (color : ℕ) (r : Rectangle) (i j : ℕ) (v : SourceValue) → solid_operands color v ≡ with_source (Solid color) r i j v
+solid_operands_lem : (color : ℕ) (r : Rectangle) (i j : ℕ) (v : Option ℕ) → solid_operands color v ≡ with_source (Solid color) r i j v
 unfolding with_source with_pattern
-solid_operands_lem color r i j Transparent = refl
-solid_operands_lem color r i j (Value v) = refl
+solid_operands_lem color r i j None = refl
+solid_operands_lem color r i j (Some v) = refl
 
 -- the pixel at column i of row j, drawn with its operands at its first byte
 module _ (b : Blt) (i j : ℕ) (frame : List ℕ) {code at : ℕ} (c : code ≡ b.code) (a : at ≡ pixel_byte b.destination i j) where
-  pub operands_drawn : {o : Operands} → o ≡ operands_at b i j frame
+  pub operands_drawn : {o : Option Operands} → o ≡ operands_at b i j frame
       → draw_operands b.destination.depth code at o frame ≡ draw_at b i j frame
   unfolding draw_at
   operands_drawn e = rw (c, a, e)
 
   -- of a solid pattern, its colour and what the source gives
-  pub solid_drawn : {color p : ℕ} {v : SourceValue} → b.pattern ≡ Solid color → p ≡ color → v ≡ source_value b.source i j frame
+  pub solid_drawn : {color p : ℕ} {v : Option ℕ} → b.pattern ≡ Solid color → p ≡ color → v ≡ source_value b.source i j frame
       → draw_operands b.destination.depth code at (solid_operands p v) frame ≡ draw_at b i j frame
   unfolding operands_at
   solid_drawn {p = p} {v} solid e s = operands_drawn (solid_operands_lem p b.destination i j v ∙ rw (solid, e, s))
 
-  pub value_drawn : {color p v : ℕ} → b.pattern ≡ Solid color → p ≡ color → Value v ≡ source_value b.source i j frame
+  pub value_drawn : {color p v : ℕ} → b.pattern ≡ Solid color → p ≡ color → Some v ≡ source_value b.source i j frame
       → store_pixel b.destination.depth frame at
       (raster (8 * b.destination.depth) code p v (read_pixel b.destination.depth frame at))
       ≡ draw_at b i j frame
   unfolding draw_operands
-  value_drawn {p = p} {v} solid e s = solid_drawn {p = p} {v = Value v} solid e s
+  value_drawn {p = p} {v} solid e s = solid_drawn {p = p} {v = Some v} solid e s
 
 -- ---- rows
 
@@ -198,7 +195,7 @@ module _ {size : ℕ} {b : Blt} {i j n : ℕ} (r : Row size b i j n) where
       source_at = along_at r.small same.columns_same m (rw f at (source_within first)) (rw f at (source_within here)) g
 
       pub source_read : {at : ℕ} → at ≡ from + ahead b.destination.columns m - behind b.destination.columns m
-          → (at + b.destination.depth ≤ now) × ((frame : List ℕ) → Value (read_pixel b.destination.depth frame at) ≡ source_value b.source (i + m) j frame)
+          → (at + b.destination.depth ≤ now) × ((frame : List ℕ) → Some (read_pixel b.destination.depth frame at) ≡ source_value b.source (i + m) j frame)
       unfolding source_value
       source_read a =
           let w = rw f at (source_within here) in

@@ -1,7 +1,7 @@
 -- What the definitions of bounds give: "some number below n" is found, and none is where none has the property; the least and
 -- the greatest of n numbers; and an extent is outside exactly where some byte is.
 use Prim.Native.Nat.{ℕ, zero, suc, ◌≤◌, ◌<◌}
-use Rattle.std.specs.Prelude.{◌≡◌, refl, Bool, true, false}
+use Rattle.std.specs.Prelude.{◌≡◌, refl, Bool, true, false, Option, is_none}
 use Rattle.std.proofs.Common.{subst, eq-or-lt_of_le, le_of_suc-le-suc}
 use Rattle.std.proofs.Math.Logic.{⊎_elim}
 use native.Mathlib.Omega.{arith}
@@ -10,7 +10,6 @@ use Rattle.model.specs.Choice.{◌<?◌}
 use Rattle.model.proofs.Choice.{true_or_false, not_both, either, neither, if_both}
 use Rattle.model.specs.Bounds.{some, outside, least, greatest, extent}
 use Rattle.model.specs.declared.Extent.{Extent}
-use Rattle.model.specs.declared.Extent.TheVariants.{Inside, Outside}
 
 pub some_found : (n : ℕ) (has : ℕ → Bool) → some n has ≡ true → (k : ℕ) × (k < n) × (has k ≡ true)
 unfolding some
@@ -82,11 +81,10 @@ module _ (f : ℕ → ℕ) (m : ℕ) where
 
 -- ---- extents
 
-abbrev pub is_outside : Extent → Bool
-is_outside (Inside low high) = false
-is_outside Outside = true
+abbrev pub is_outside : Option Extent → Bool
+is_outside = is_none
 
-pub extent_outside : (framelength depth count offset : ℕ) (plus minus : ℕ → ℕ) {e : Extent}
+pub extent_outside : (framelength depth count offset : ℕ) (plus minus : ℕ → ℕ) {e : Option Extent}
     → e ≡ extent framelength depth count offset plus minus → outside framelength depth count offset plus minus ≡ is_outside e
 unfolding extent
 extent_outside framelength depth count offset plus minus q =

@@ -1,6 +1,6 @@
 -- Where a pixel of a host source straddles two words, in closed form: at four bytes a pixel from bytes 1 to 3, at two from byte 3, or
 -- from byte 1 where a row has a second pixel, and nowhere where there is no pixel.
-use Rattle.std.specs.Prelude.{ℕ, zero, suc, ◌+◌, ◌-◌, ◌*◌, ◌/◌, ◌%◌, ◌≤◌, ◌<◌, ◌≡◌, refl, Bool, true, false, not, ◌&&◌, ◌||◌, List, if◌then◌else◌}
+use Rattle.std.specs.Prelude.{ℕ, zero, suc, ◌+◌, ◌-◌, ◌*◌, ◌/◌, ◌%◌, ◌≤◌, ◌<◌, ◌≡◌, refl, Bool, true, false, not, ◌&&◌, ◌||◌, List, if◌then◌else◌, Option}
 use Rattle.std.proofs.Common.{sym, ap, ◌∙◌, ⊎_elim, arith, mul_assoc, mul-zero, mul-suc, zero-mul, add-zero, mod-lt, mod-eq_of_lt, eq-eqb, ne_eqb, eqb-true, lt-ltb, ltb-true, ltb-false}
 use Rattle.std.proofs.lemmas.Bool.{not-false, eqb-false}
 use Rattle.model.specs.Choice.{◌<?◌, ◌=?◌}
@@ -11,7 +11,6 @@ use Rattle.model.specs.Bounds.{some}
 use Rattle.model.specs.Rectangle.{pixels_of}
 use Rattle.model.specs.BltPixel.{rectangle_of, mono_mode, blt_of}
 use Rattle.model.specs.Host.{from_host, starting_byte, host_of, host_byte, host_pixel, straddles}
-use Rattle.model.specs.declared.Format.{Format}
 use Rattle.laws.specs.Pixels.{depth_of_most}
 use Rattle.laws.specs.Some.{some_not, some_at, some_none}
 
@@ -115,7 +114,7 @@ module _ (f w n : ℕ) (small : f < 4) (wide : 0 < n → (0 < w) × (w ≤ n)) w
   closed : (code : ℕ) → Closed (depth_of (format_of code))
   unfolding format_of
   closed code =
-      let Of : Format → Type 0 = λ x. Closed (depth_of x) in
+      let Of : Option ℕ → Type 0 = λ x. Closed (depth_of x) in
       if_both Of (code =? 0b0000) (never 1 refl)
       (if_both Of (code =? 0b0100 || code =? 0b0101 || code =? 0b0110) at_2 (if_both Of (code =? 0b1000) at_4 (never 0 refl)))
 

@@ -1,6 +1,6 @@
 -- Colour patterns: the tile in the lookup table, as eight rows of eight colours, and the pixels of a BLT that has one.
 use Prim.Native.Nat.{ℕ, zero, suc, ◌+◌, ◌-◌, ◌*◌, ◌/◌, ◌%◌, ◌^◌, ◌≤◌, ◌<◌}
-use Rattle.std.specs.Prelude.{◌≡◌, Bool, true, false, ◌&&◌, length, get_or, take, set}
+use Rattle.std.specs.Prelude.{◌≡◌, Bool, true, false, ◌&&◌, length, get_or, take, set, Option, Some, None}
 use Rattle.std.proofs.Math.Path.{refl}
 use Rattle.std.proofs.Common.{sym, ap, ◌∙◌, arith, le_refl, mod-lt, add-mul, mul-le-mul_left, mul-le-mul_right, div-mul-le_self, add-one, shr-shr, take_all, take-suc-set, get_or-append-add, ltb-true, ltb-false}
 use mathlib.Core.List.{List, [], ◌∷◌, ◌++◌}
@@ -13,11 +13,10 @@ use Rattle.model.specs.Formats.{Depth}
 use Rattle.model.specs.Pattern.{pattern_index}
 use Rattle.model.specs.Lookup.{tile_word, tile_byte, tile_value, tile_color}
 use Rattle.model.specs.Rectangle.{column_of, row_of}
-use Rattle.model.specs.BltPixel.{color_pattern_of, blt_of, with_color, color_at, blt_at, draw_at, draw_blt, draw_tiled}
+use Rattle.model.specs.BltPixel.{color_pattern_of, blt_of, with_color, color_at, blt_at, draw_at, draw_blt, draw_tiled, tile_from}
 use Rattle.model.specs.Unit.{draw_pixel}
 use Rattle.model.specs.declared.Blt.{Blt}
-use Rattle.model.specs.declared.ColorPattern.{ColorPattern}
-use Rattle.model.specs.declared.ColorPattern.TheVariants.{Absent, Tile}
+use Rattle.model.specs.declared.TileOrigin.{TileOrigin}
 use Rattle.model.specs.declared.Primitive.TheVariants.{Blt as BltPrimitive}
 use Rattle.model.specs.declared.Rectangle.{Rectangle}
 use Rattle.laws.specs.Numbers.{column_add, row_add}
@@ -150,30 +149,30 @@ color_in_lem table r row column i j =
     ap (λ (l : List ℕ). get_or l x 0) at ∙ upto_at {A = ℕ} (colors y) 8 x 0 (index_lt _)
 
 pub tiled_pixels_lem : (table : List ℕ) (row column : ℕ) (b : Blt) (k n : ℕ) (frame : List ℕ)
-    → tile_pixels (tile_of b.destination.depth table) row column b k n frame ≡ in_order (draw_tiled (Tile row column) table b) k n frame
+    → tile_pixels (tile_of b.destination.depth table) row column b k n frame ≡ in_order (draw_tiled (tile_from row column) table b) k n frame
 unfolding draw_tiled blt_at draw_blt
 tiled_pixels_lem table row column b k n =
-    order_same (tile_pixel (tile_of b.destination.depth table) row column b) (draw_tiled (Tile row column) table b) n k k
+    order_same (tile_pixel (tile_of b.destination.depth table) row column b) (draw_tiled (tile_from row column) table b) n k k
     (λ m l frame.
     let i = column_of b.destination (k + m) in
     let j = row_of b.destination (k + m) in
     ap (λ (color : ℕ). draw_at (with_color b color) i j frame) (color_in_lem table b.destination row column i j))
 
-pub untiled_pixels : (table : List ℕ) (b : Blt) (k n : ℕ) (frame : List ℕ) → blt_pixels b k n frame ≡ in_order (draw_tiled Absent table b) k n frame
+pub untiled_pixels : (table : List ℕ) (b : Blt) (k n : ℕ) (frame : List ℕ) → blt_pixels b k n frame ≡ in_order (draw_tiled None table b) k n frame
 unfolding draw_tiled blt_at
-untiled_pixels table b k n = order_same (draw_blt b) (draw_tiled Absent table b) n k k (λ m l frame. refl)
+untiled_pixels table b k n = order_same (draw_blt b) (draw_tiled None table b) n k k (λ m l frame. refl)
 
 -- and so those of the registers
-pub blt_pixels_lem : (registers table : List ℕ) {p : ColorPattern} → p ≡ color_pattern_of registers → (k n : ℕ) (frame : List ℕ)
+pub blt_pixels_lem : (registers table : List ℕ) {p : Option TileOrigin} → p ≡ color_pattern_of registers → (k n : ℕ) (frame : List ℕ)
     → in_order (draw_tiled p table (blt_of registers)) k n frame ≡ pixels BltPrimitive registers table k n frame
 unfolding draw_pixel
 blt_pixels_lem registers table {p} e k n =
     order_same (draw_tiled p table (blt_of registers)) (draw_pixel BltPrimitive registers table) n k k (λ m l frame. rw e)
 
 -- a tile's row and column of the first pixel
-abbrev pub FitTile : ColorPattern → Type 0
-FitTile Absent = Unit {0}
-FitTile (Tile row column) = (row < 8) × (column < 8)
+abbrev pub FitTile : Option TileOrigin → Type 0
+FitTile None = Unit {0}
+FitTile (Some tile) = (tile.row < 8) × (tile.column < 8)
 
 pub fit_tile : (registers : List ℕ) → FitTile (color_pattern_of registers)
 unfolding color_pattern_of

@@ -1,5 +1,5 @@
 -- A machine that a run may be handed: its state is fit, and ring and frame memory have its lengths. Units keep it so.
-use Rattle.std.specs.Prelude.{ℕ, ◌≡◌, true, not, List, length}
+use Rattle.std.specs.Prelude.{ℕ, ◌≡◌, true, not, List, length, Option, Some, None}
 use Rattle.std.proofs.Math.Path.{refl}
 use Rattle.std.proofs.Common.{sym, ◌∙◌}
 use borrow.Author.Tests.{eqb-true, eq-eqb, not-false}
@@ -17,7 +17,6 @@ use Rattle.model.proofs.Steps.{step_of}
 use Rattle.model.specs.Calls.{run_rules, run_refusal, machine_of}
 use Rattle.model.specs.declared.State.{State}
 use Rattle.model.specs.declared.Operands.{Operands}
-use Rattle.model.specs.declared.Operands.TheVariants.{Nothing, Values}
 use Rattle.model.specs.declared.Primitive.{Primitive}
 use Rattle.model.specs.declared.Primitive.TheVariants.{Blt, Vector}
 use Rattle.laws.specs.Pixels.{length_store}
@@ -51,10 +50,10 @@ module _ (ring : List ℕ) (s : State) (frame : List ℕ) where
 
 -- ---- what a unit keeps
 
-length_operands : (depth code at : ℕ) (operands : Operands) (frame : List ℕ) → length (draw_operands depth code at operands frame) ≡ length frame
+length_operands : (depth code at : ℕ) (operands : Option Operands) (frame : List ℕ) → length (draw_operands depth code at operands frame) ≡ length frame
 unfolding draw_operands
-length_operands depth code at Nothing frame = refl
-length_operands depth code at (Values p s) frame = length_store depth frame at _
+length_operands depth code at None frame = refl
+length_operands depth code at (Some o) frame = length_store depth frame at _
 
 pub length_pixel : (primitive : Primitive) (registers table : List ℕ) (k : ℕ) (frame : List ℕ)
     → length (draw_pixel primitive registers table k frame) ≡ length frame

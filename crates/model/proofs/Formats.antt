@@ -1,6 +1,5 @@
 -- What is proved of specs/Formats.
-use Rattle.std.specs.Prelude.{◌≡◌, refl, [], ◌∷◌, map}
-use Rattle.model.specs.declared.Format.TheVariants.{Bytes, Refused}
+use Rattle.std.specs.Prelude.{◌≡◌, refl, [], ◌∷◌, map, Some, None}
 use Rattle.model.specs.Formats.{format_of}
 
 -- ---- laws
@@ -8,9 +7,9 @@ use Rattle.model.specs.Formats.{format_of}
 -- the sixteen codes, 0000 to 1111
 pub formats :
     map format_of (0 ∷ 1 ∷ 2 ∷ 3 ∷ 4 ∷ 5 ∷ 6 ∷ 7 ∷ 8 ∷ 9 ∷ 10 ∷ 11 ∷ 12 ∷ 13 ∷ 14 ∷ 15 ∷ [])
-    ≡ Bytes 1 ∷ Refused ∷ Refused ∷ Refused
-    ∷ Bytes 2 ∷ Bytes 2 ∷ Bytes 2 ∷ Refused
-    ∷ Bytes 4 ∷ Refused ∷ Refused ∷ Refused
-    ∷ Refused ∷ Refused ∷ Refused ∷ Refused ∷ []
+    ≡ Some 1 ∷ None ∷ None ∷ None
+    ∷ Some 2 ∷ Some 2 ∷ Some 2 ∷ None
+    ∷ Some 4 ∷ None ∷ None ∷ None
+    ∷ None ∷ None ∷ None ∷ None ∷ []
 unfolding format_of
 formats = refl

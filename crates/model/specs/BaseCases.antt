@@ -1,6 +1,7 @@
 -- Two screens in one memory (document 02, W6), by cases: where pixels lie with a base, the refusals 27 and 28 by the whole place, and
 -- row 3. Memories of many MiB stand here by their length alone: 27, 28 and row 3 look at no byte. The one table of Cases shows them.
-use Rattle.std.specs.Prelude.{ℕ, ◌+◌, ◌-◌, ◌*◌, ◌≡◌, true, false, List, [], ◌∷◌, ◌++◌, map, replicate}
+use Rattle.std.specs.Prelude.{ℕ, ◌+◌, ◌-◌, ◌*◌, ◌≡◌, true, false, List, [], ◌∷◌, ◌++◌, map, replicate, Option, None}
+use Rattle.model.specs.Bounds.{inside}
 use Rattle.model.specs.Registers.{RASTER_MODE, DST_OFFSET, STRIDE, WID_HEIGHT, PAT_COLOR_0, BASE_OFFSET, VEC_LEN, VEC_ERR, VECTOR_MODE}
 use Rattle.model.specs.Rectangle.{pixel_byte, column_of, row_of, pixels_of, rectangle_extent}
 use Rattle.model.specs.BltPixel.{blt_of}
@@ -12,7 +13,6 @@ use Rattle.model.specs.Calls.{unfit, machine_of}
 use Rattle.model.specs.CaseSetup.{◌but◌is◌, zeros, ring_of, no_table, engine, series, row, copy, line}
 use Rattle.model.specs.HostCases.{picture, counting, data_of, command, sent, steps, feed}
 use Rattle.model.specs.declared.Extent.{Extent}
-use Rattle.model.specs.declared.Extent.TheVariants.{Inside, Outside}
 use Rattle.model.specs.declared.Primitive.TheVariants.{Blt, Vector}
 use Rattle.model.specs.declared.Place.TheVariants.{Idle, Drawing, Fed}
 use Rattle.model.specs.declared.Rectangle.{Rectangle}
@@ -52,7 +52,7 @@ two_bases mode =
     (drawn_at registers, read_at registers)
 
 -- the row of four bytes with this base and offset: what judges it in so many bytes, and its extent
-abbrev pub row_in : (framelength base offset : ℕ) → ℕ × Extent
+abbrev pub row_in : (framelength base offset : ℕ) → ℕ × Option Extent
 row_in framelength base offset =
     let registers = row but BASE_OFFSET is bases base 0 but DST_OFFSET is offset in
     (judge Blt registers framelength, rectangle_extent framelength (blt_of registers).destination)
@@ -69,7 +69,7 @@ bits_from mode base offset =
 
 -- the line with terms 4 and -6, initial -1, length 6, X major, both signs positive, and this base: what judges it in so many bytes, and
 -- its extent
-abbrev pub line_in : (framelength base offset : ℕ) → ℕ × Extent
+abbrev pub line_in : (framelength base offset : ℕ) → ℕ × Option Extent
 line_in framelength base offset =
     let v = line but VEC_ERR is 0x0004FFFA but VEC_LEN is 0x0006FFFF but VECTOR_MODE is 6 but BASE_OFFSET is bases base 3
     but DST_OFFSET is offset in
@@ -127,11 +127,11 @@ pub record Bases : Type 0 where
   -- the last byte of 64 MiB drawn and the one after it refused, by base 15 and by base 12 with an offset near 16 MiB
   pub last_byte :
       map (row_in (mebibyte 64) 15) (0x3FFFFC ∷ 0x3FFFFD ∷ []) ++ map (row_in (mebibyte 64) 12) (0xFFFFFC ∷ 0xFFFFFD ∷ [])
-      ≡ (0, Inside (mebibyte 64 - 4) (mebibyte 64 - 1)) ∷ (27, Outside) ∷ (0, Inside (mebibyte 64 - 4) (mebibyte 64 - 1)) ∷ (27, Outside) ∷ []
+      ≡ (0, inside (mebibyte 64 - 4) (mebibyte 64 - 1)) ∷ (27, None) ∷ (0, inside (mebibyte 64 - 4) (mebibyte 64 - 1)) ∷ (27, None) ∷ []
   -- base 1023 lies outside; with 4 MiB more it would be byte 0 of a memory in which 32 bits are counted. "Positions are .. never reduced"
-  pub base_1023 : map (row_in (mebibyte 64) 1_023) (0 ∷ 0x400000 ∷ 0xFFFFFF ∷ []) ≡ replicate 3 (27, Outside)
+  pub base_1023 : map (row_in (mebibyte 64) 1_023) (0 ∷ 0x400000 ∷ 0xFFFFFF ∷ []) ≡ replicate 3 (27, None)
   -- 000's wrap at the end of a region of 16 MiB is void, and so is its beginning: across 16 MiB from base 0, and up and left from base 1
-  pub no_region : row_in (mebibyte 64) 0 0xFFFFFE ≡ (0, Inside (mebibyte 16 - 2) (mebibyte 16 + 1))
+  pub no_region : row_in (mebibyte 64) 0 0xFFFFFE ≡ (0, inside (mebibyte 16 - 2) (mebibyte 16 + 1))
   pub below_base :
       drawn_at (copy 0 1 0x300 but RASTER_MODE is 0x600000F0 but STRIDE is 16 but WID_HEIGHT is 0x00020002 but BASE_OFFSET is bases 1 0)
       ≡ mebibyte 4 ∷ (mebibyte 4 - 2) ∷ (mebibyte 4 - 16) ∷ (mebibyte 4 - 18) ∷ []
@@ -144,7 +144,7 @@ pub record Bases : Type 0 where
   -- a vector has the destination's base, and the source's has no effect on it
   pub line_in_holds :
       map (line_in (mebibyte 12 + 16) 3) (6 ∷ 7 ∷ []) ++ (line_in (mebibyte 12) 3 0 ∷ [])
-      ≡ (0, Inside (mebibyte 12 + 6) (mebibyte 12 + 15)) ∷ (27, Outside) ∷ (27, Outside) ∷ []
+      ≡ (0, inside (mebibyte 12 + 6) (mebibyte 12 + 15)) ∷ (27, None) ∷ (27, None) ∷ []
   -- "Number 24 stops covering BASE_OFFSET": in 16 bytes its reserved bits, channel 3's base and, with no source in frame memory, the
   -- source's have no effect, of a BLT and of a vector; the destination's is 27
   pub bases_judged :

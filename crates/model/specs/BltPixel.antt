@@ -1,6 +1,6 @@
 -- "A BLT pixel" (document 01), with mono sources and colour patterns (W1 and W4 of document 02): the pixels of a BLT, in the order in
 -- which they are drawn.
-use Rattle.std.specs.Prelude.{ℕ, ◌+◌, ◌-◌, ◌/◌, Bool, false, ◌&&◌, ◌||◌, List, if◌then◌else◌}
+use Rattle.std.specs.Prelude.{ℕ, ◌+◌, ◌-◌, ◌/◌, Bool, false, ◌&&◌, ◌||◌, List, if◌then◌else◌, Option, Some, None}
 use Rattle.model.specs.Choice.{◌=?◌}
 use Rattle.model.specs.Registers.{word, SRC_COLOR_FG, SRC_COLOR_BG, PAT_COLOR_0, PAT_COLOR_1, PAT_DATA_0, PAT_DATA_1, format_code, source_inversion, source_transparency, pattern_transparency, pattern_mode, raster_code, pattern_row, pattern_column, channel3_row, channel3_column, channel3_enable, channel3_pattern_mode, destination_address, source_skip, source_address, source_stride, destination_stride, width, height, x_negative, y_negative, source_mode, source_select}
 use Rattle.model.specs.Formats.{format_of, depth_of}
@@ -9,23 +9,23 @@ use Rattle.model.specs.Pixel.{read_pixel}
 use Rattle.model.specs.Pattern.{pattern_bit, pattern_index}
 use Rattle.model.specs.Lookup.{tile_color}
 use Rattle.model.specs.Expansion.{byte_column, source_bit, expand}
-use Rattle.model.specs.Operands.{draw_operands}
+use Rattle.model.specs.Operands.{draw_operands, values}
 use Rattle.model.specs.declared.Blt.{Blt}
-use Rattle.model.specs.declared.ColorPattern.{ColorPattern}
-use Rattle.model.specs.declared.ColorPattern.TheVariants.{Absent, Tile}
+use Rattle.model.specs.declared.TileOrigin.{TileOrigin}
 use Rattle.model.specs.declared.MonoPattern.{MonoPattern}
 use Rattle.model.specs.declared.MonoSource.{MonoSource}
 use Rattle.model.specs.declared.Operands.{Operands}
-use Rattle.model.specs.declared.Operands.TheVariants.{Nothing, Values}
 use Rattle.model.specs.declared.Pattern.{Pattern}
 use Rattle.model.specs.declared.Pattern.TheVariants.{Solid, Mono}
 use Rattle.model.specs.declared.Rectangle.{Rectangle}
 use Rattle.model.specs.declared.Source.{Source}
 use Rattle.model.specs.declared.Source.TheVariants.{Unselected, Frame, Bits}
-use Rattle.model.specs.declared.SourceValue.{SourceValue}
-use Rattle.model.specs.declared.SourceValue.TheVariants.{Transparent, Value}
 
 -- ---- the BLT that the registers describe
+
+-- a tile of which the first pixel has this row and column
+abbrev pub tile_from : (row column : ℕ) → Option TileOrigin
+tile_from row column = Some (record { row = row; column = column })
 
 module _ (registers : List ℕ) where
   -- a rectangle of the BLT's size and directions with this offset and stride
@@ -95,11 +95,11 @@ module _ (registers : List ℕ) where
 
   -- W4: "a BLT's colour pattern, by RASTER_MODE or, in place of any pattern there, by channel 3's pattern mode", with the row and
   -- column of the first pixel: the low bits of DST_OFFSET or of CH3_OFFSET
-  unfoldable pub color_pattern_of : ColorPattern
+  unfoldable pub color_pattern_of : Option TileOrigin
   color_pattern_of =
-      if channel3_enable registers && channel3_pattern_mode registers then Tile (channel3_row registers) (channel3_column registers)
-      else if pattern_mode registers =? 0b10 then Tile (pattern_row registers) (pattern_column registers)
-      else Absent
+      if channel3_enable registers && channel3_pattern_mode registers then tile_from (channel3_row registers) (channel3_column registers)
+      else if pattern_mode registers =? 0b10 then tile_from (pattern_row registers) (pattern_column registers)
+      else None
 
   unfoldable pub blt_of : Blt
   blt_of = record {
@@ -112,9 +112,9 @@ module _ (registers : List ℕ) where
 -- ---- what the pixel at column i of row j gets
 
 -- the source value
-unfoldable pub source_value : Source → (i j : ℕ) → List ℕ → SourceValue
-source_value (Unselected color) i j frame = Value color
-source_value (Frame r) i j frame = Value (read_pixel r.depth frame (pixel_byte r i j))
+unfoldable pub source_value : Source → (i j : ℕ) → List ℕ → Option ℕ
+source_value (Unselected color) i j frame = Some color
+source_value (Frame r) i j frame = Some (read_pixel r.depth frame (pixel_byte r i j))
 source_value (Bits m) i j frame = expand m (source_bit m i j frame)
 
 -- the mono pattern's bit: "row and column are the offset register's Y and X low bits plus the signed steps from the first
@@ -127,19 +127,19 @@ mono_bit p r i j =
 
 -- the pattern value beside a source value. Of a mono pattern "set gives PAT_COLOR_1, clear PAT_COLOR_0; with pattern
 -- transparency a clear bit writes nothing"; "transparency on a solid pattern .. [has] no effect"
-unfoldable pub with_pattern : Pattern → Rectangle → (i j : ℕ) → ℕ → Operands
-with_pattern (Solid color) r i j source = Values color source
+unfoldable pub with_pattern : Pattern → Rectangle → (i j : ℕ) → ℕ → Option Operands
+with_pattern (Solid color) r i j source = values color source
 with_pattern (Mono p) r i j source =
-    if mono_bit p r i j =? 1 then Values p.color1 source
-    else if p.transparent then Nothing
-    else Values p.color0 source
+    if mono_bit p r i j =? 1 then values p.color1 source
+    else if p.transparent then None
+    else values p.color0 source
 
 -- a pixel that is transparent by its source writes nothing, whatever its pattern and the raster code
-unfoldable pub with_source : Pattern → Rectangle → (i j : ℕ) → SourceValue → Operands
-with_source p r i j Transparent = Nothing
-with_source p r i j (Value source) = with_pattern p r i j source
+unfoldable pub with_source : Pattern → Rectangle → (i j : ℕ) → Option ℕ → Option Operands
+with_source p r i j None = None
+with_source p r i j (Some source) = with_pattern p r i j source
 
-unfoldable pub operands_at : Blt → (i j : ℕ) → List ℕ → Operands
+unfoldable pub operands_at : Blt → (i j : ℕ) → List ℕ → Option Operands
 operands_at b i j frame = with_source b.pattern b.destination i j (source_value b.source i j frame)
 
 -- ---- drawing
@@ -149,7 +149,7 @@ draw_at b i j frame =
     draw_operands b.destination.depth b.code (pixel_byte b.destination i j) (operands_at b i j frame) frame
 
 -- the same with a source value that is handed to it
-unfoldable pub draw_from : Blt → (i j : ℕ) → SourceValue → List ℕ → List ℕ
+unfoldable pub draw_from : Blt → (i j : ℕ) → Option ℕ → List ℕ → List ℕ
 draw_from b i j value frame =
     draw_operands b.destination.depth b.code (pixel_byte b.destination i j)
     (with_source b.pattern b.destination i j value) frame
@@ -165,15 +165,15 @@ color_at r row column table i j =
 
 -- the BLT as the pixel at column i of row j sees it: a colour pattern gives each pixel a colour of its own, as a solid pattern gives
 -- every pixel one, so "pattern transparency has no effect on it"
-unfoldable pub blt_at : ColorPattern → List ℕ → Blt → (i j : ℕ) → Blt
-blt_at Absent table b i j = b
-blt_at (Tile row column) table b i j = with_color b (color_at b.destination row column table i j)
+unfoldable pub blt_at : Option TileOrigin → List ℕ → Blt → (i j : ℕ) → Blt
+blt_at None table b i j = b
+blt_at (Some tile) table b i j = with_color b (color_at b.destination tile.row tile.column table i j)
 
 -- pixel number k
 unfoldable pub draw_blt : Blt → ℕ → List ℕ → List ℕ
 draw_blt b k frame = draw_at b (column_of b.destination k) (row_of b.destination k) frame
 
-unfoldable pub draw_tiled : ColorPattern → List ℕ → Blt → ℕ → List ℕ → List ℕ
+unfoldable pub draw_tiled : Option TileOrigin → List ℕ → Blt → ℕ → List ℕ → List ℕ
 draw_tiled p table b k frame = draw_blt (blt_at p table b (column_of b.destination k) (row_of b.destination k)) k frame
 
 -- ---- bounds

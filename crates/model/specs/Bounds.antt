@@ -1,9 +1,8 @@
 -- Where pixels lie. "Positions are signed whole numbers, never reduced": a position is kept as two natural numbers, what is
 -- added to the offset and what is taken away from it.
-use Rattle.std.specs.Prelude.{ℕ, zero, suc, ◌+◌, ◌-◌, Bool, false, ◌||◌, if◌then◌else◌}
+use Rattle.std.specs.Prelude.{ℕ, zero, suc, ◌+◌, ◌-◌, Bool, false, ◌||◌, if◌then◌else◌, Option, Some, None}
 use Rattle.model.specs.Choice.{◌<?◌, ◌≤?◌}
 use Rattle.model.specs.declared.Extent.{Extent}
-use Rattle.model.specs.declared.Extent.TheVariants.{Inside, Outside}
 
 -- "further, or back if .. is negative": what n bytes along an axis add, and what they take away
 abbrev pub added : Bool → ℕ → ℕ
@@ -40,9 +39,13 @@ unfoldable pub greatest : ℕ → (ℕ → ℕ) → ℕ
 greatest zero f = f 0
 greatest (suc n) f = if greatest n f <? f (suc n) then f (suc n) else greatest n f
 
+-- from the lowest byte to the highest
+abbrev pub inside : (low high : ℕ) → Option Extent
+inside low high = Some (record { low = low; high = high })
+
 -- where the same pixels lie: the lowest and the highest of their bytes, the last byte of a pixel included, or outside
-unfoldable pub extent : (framelength depth count offset : ℕ) → (plus minus : ℕ → ℕ) → Extent
+unfoldable pub extent : (framelength depth count offset : ℕ) → (plus minus : ℕ → ℕ) → Option Extent
 extent framelength depth count offset plus minus =
-    if outside framelength depth count offset plus minus then Outside
-    else Inside (least (count - 1) (λ k. first_byte offset (plus k) (minus k)))
+    if outside framelength depth count offset plus minus then None
+    else inside (least (count - 1) (λ k. first_byte offset (plus k) (minus k)))
     (greatest (count - 1) (λ k. first_byte offset (plus k) (minus k)) + (depth - 1))

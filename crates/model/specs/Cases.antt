@@ -1,6 +1,7 @@
 -- The marked shop cases of document 01, shown from the definitions in one table, with further cases that pin the definitions
 -- where the marked ones leave room, and with the words of a released display driver.
-use Rattle.std.specs.Prelude.{ℕ, zero, suc, ◌+◌, ◌-◌, ◌*◌, ◌/◌, ◌%◌, ◌^◌, ◌≡◌, Bool, true, false, List, [], ◌∷◌, ◌++◌, map, length, replicate, get_or, drop}
+use Rattle.std.specs.Prelude.{ℕ, zero, suc, ◌+◌, ◌-◌, ◌*◌, ◌/◌, ◌%◌, ◌^◌, ◌≡◌, Bool, true, false, List, [], ◌∷◌, ◌++◌, map, length, replicate, get_or, drop, Option, None}
+use Rattle.model.specs.Bounds.{inside}
 use Rattle.model.specs.Choice.{◌≤?◌}
 use Rattle.model.specs.Refusals.{first}
 use Rattle.model.specs.Registers.{register_count, RASTER_MODE, DST_OFFSET, SRC_OFFSET, STRIDE, WID_HEIGHT, SRC_COLOR_FG, SRC_COLOR_BG, PAT_COLOR_0, PAT_COLOR_1, PAT_DATA_0, PAT_DATA_1, CH3_OFFSET, CH3_MODE_STR, CH3_WIDHI, BASE_OFFSET, BLT_MODE, VECTOR_MODE, LUT_INDEX, VEC_ERR, VEC_LEN}
@@ -20,7 +21,6 @@ use Rattle.model.specs.BaseCases.{Bases}
 use Rattle.model.specs.declared.State.{State}
 use Rattle.model.specs.declared.Answer.{Answer}
 use Rattle.model.specs.declared.Extent.{Extent}
-use Rattle.model.specs.declared.Extent.TheVariants.{Inside, Outside}
 use Rattle.model.specs.declared.Primitive.TheVariants.{Blt, Vector}
 use Rattle.model.specs.declared.Place.TheVariants.{Idle, Drawing}
 use Rattle.model.specs.declared.RunWord.TheVariants.{Stopped, Waiting, Spent}
@@ -104,16 +104,16 @@ block raster src dst mode =
     copy src dst mode but RASTER_MODE is raster but STRIDE is 0x00100010 but WID_HEIGHT is 0x00030002
 
 -- the number that judges them in so many bytes of frame memory, and their extent
-abbrev pub bounds_of : (raster offset mode framelength : ℕ) → ℕ × Extent
+abbrev pub bounds_of : (raster offset mode framelength : ℕ) → ℕ × Option Extent
 bounds_of raster offset mode framelength =
     let blt = block raster 0 offset mode in
     (judge Blt blt framelength, rectangle_extent framelength (blt_of blt).destination)
 
-abbrev pub bounds : (offset mode framelength : ℕ) → ℕ × Extent
+abbrev pub bounds : (offset mode framelength : ℕ) → ℕ × Option Extent
 bounds = bounds_of 0x600000F0
 
 -- the same of a vector with terms 1 and -3, initial -2, length 4, X positive, Y negative
-abbrev pub vector_bounds : ℕ → ℕ × Extent
+abbrev pub vector_bounds : ℕ → ℕ × Option Extent
 vector_bounds framelength =
     let v = line but DST_OFFSET is 4 but VEC_ERR is 0x0001FFFD but VEC_LEN is 0x0004FFFE but VECTOR_MODE is 2 in
     (judge Vector v framelength, vector_extent framelength (vector_of v))
@@ -123,15 +123,15 @@ pub record Extremes : Type 0 where
   -- "Frame of 16 bytes, 8 bpp, one row of 4: offset 12 drawn, 13 refused by 27." (not marked); an offset is bits 23:0
   pub row_fits : row_with DST_OFFSET (12 ∷ 13 ∷ 0xFF00000C ∷ []) ≡ 0 ∷ 27 ∷ 0 ∷ []
   -- the four directions: frame memory that just holds the pixels, one byte less, and below byte 0
-  pub right_down : map (bounds 40 0x000) (62 ∷ 61 ∷ []) ≡ (0, Inside 40 61) ∷ (27, Outside) ∷ []
-  pub left_down : map (bounds 40 0x200) (57 ∷ 56 ∷ []) ≡ (0, Inside 35 56) ∷ (27, Outside) ∷ []
-  pub right_up : bounds 15 0x100 62 ∷ map (bounds 40 0x100) (46 ∷ 45 ∷ []) ≡ (27, Outside) ∷ (0, Inside 24 45) ∷ (27, Outside) ∷ []
-  pub left_up : bounds 20 0x300 62 ∷ map (bounds 21 0x300) (22 ∷ 21 ∷ []) ≡ (27, Outside) ∷ (0, Inside 0 21) ∷ (27, Outside) ∷ []
+  pub right_down : map (bounds 40 0x000) (62 ∷ 61 ∷ []) ≡ (0, inside 40 61) ∷ (27, None) ∷ []
+  pub left_down : map (bounds 40 0x200) (57 ∷ 56 ∷ []) ≡ (0, inside 35 56) ∷ (27, None) ∷ []
+  pub right_up : bounds 15 0x100 62 ∷ map (bounds 40 0x100) (46 ∷ 45 ∷ []) ≡ (27, None) ∷ (0, inside 24 45) ∷ (27, None) ∷ []
+  pub left_up : bounds 20 0x300 62 ∷ map (bounds 21 0x300) (22 ∷ 21 ∷ []) ≡ (27, None) ∷ (0, inside 0 21) ∷ (27, None) ∷ []
   -- 28 only where the source is selected, 27 before it
   pub source_bounds :
       map (λ b. judge Blt b 16) (copy 13 0 1 ∷ copy 13 0 0 ∷ copy 13 13 1 ∷ copy 0xFF00000C 0 1 ∷ []) ≡ 28 ∷ 0 ∷ 27 ∷ 0 ∷ []
   -- of a vector at bytes 4 5 6 5 an inner pixel is the highest; one pixel alone takes no step
-  pub inner_extreme : map vector_bounds (7 ∷ 6 ∷ []) ≡ (0, Inside 4 6) ∷ (27, Outside) ∷ []
+  pub inner_extreme : map vector_bounds (7 ∷ 6 ∷ []) ≡ (0, inside 4 6) ∷ (27, None) ∷ []
   pub one_pixel : judge Vector (line but DST_OFFSET is 7 but VECTOR_MODE is 6) 8 ≡ 0
 
 -- 23 to 26
@@ -264,7 +264,7 @@ shifted depth raster src dst mode =
     drawn (copy src dst mode but RASTER_MODE is raster but STRIDE is 3 * depth * 0x00010001 but WID_HEIGHT is 0x00020002) (up_to (6 * depth))
 
 -- what judges the block at each of these offsets in 32 bytes of frame memory: as a destination, and as a source
-abbrev pub drawn_from : (raster mode : ℕ) → List ℕ → List (ℕ × Extent)
+abbrev pub drawn_from : (raster mode : ℕ) → List ℕ → List (ℕ × Option Extent)
 drawn_from raster mode offsets = map (λ offset. bounds_of raster offset mode 32) offsets
 
 abbrev pub read_from : (raster mode dst : ℕ) → List ℕ → List ℕ
@@ -282,10 +282,10 @@ pub record NegativeX : Type 0 where
   -- 27: the first byte of frame memory just missed and just met, the last byte just met and just missed, down and up
   pub drawn_16 :
       drawn_from 0x600000F0 0x200 (4 ∷ 5 ∷ 15 ∷ 16 ∷ []) ∷ drawn_from 0x600000F0 0x300 (20 ∷ 21 ∷ 31 ∷ 32 ∷ []) ∷ []
-      ≡ replicate 2 ((27, Outside) ∷ (0, Inside 0 21) ∷ (0, Inside 10 31) ∷ (27, Outside) ∷ [])
+      ≡ replicate 2 ((27, None) ∷ (0, inside 0 21) ∷ (0, inside 10 31) ∷ (27, None) ∷ [])
   pub drawn_32 :
       drawn_from 0x800000F0 0x200 (10 ∷ 11 ∷ 15 ∷ 16 ∷ []) ∷ drawn_from 0x800000F0 0x300 (26 ∷ 27 ∷ 31 ∷ 32 ∷ []) ∷ []
-      ≡ replicate 2 ((27, Outside) ∷ (0, Inside 0 27) ∷ (0, Inside 4 31) ∷ (27, Outside) ∷ [])
+      ≡ replicate 2 ((27, None) ∷ (0, inside 0 27) ∷ (0, inside 4 31) ∷ (27, None) ∷ [])
   -- 28: the same of a source
   pub read_16 :
       read_from 0x600000F0 0x201 15 (4 ∷ 5 ∷ 15 ∷ 16 ∷ []) ∷ read_from 0x600000F0 0x301 31 (20 ∷ 21 ∷ 31 ∷ 32 ∷ []) ∷ []

@@ -1,14 +1,13 @@
 -- Commands in the ring: header, kind, length, what is drawn, wholeness, and the loading of the enabled words (document 01, The ring,
 -- and document 02, W4 and W5; 000, Tables 6-8 to 6-12).
-use Rattle.std.specs.Prelude.{ℕ, ◌+◌, ◌-◌, ◌%◌, Bool, true, false, not, ◌&&◌, ◌||◌, List, [], ◌∷◌, length, set, if◌then◌else◌}
+use Rattle.std.specs.Prelude.{ℕ, ◌+◌, ◌-◌, ◌%◌, Bool, true, false, not, ◌&&◌, ◌||◌, List, [], ◌∷◌, length, set, if◌then◌else◌, Option, Some, None}
 use Rattle.model.specs.Choice.{◌<?◌, ◌=?◌}
 use Rattle.model.specs.Refusals.{Rule, ◌when◌}
 use Rattle.model.specs.Bits.{set?, field}
 use Rattle.model.specs.Registers.{RASTER_MODE, DST_OFFSET, SRC_OFFSET, STRIDE, WID_HEIGHT, SRC_COLOR_FG, SRC_COLOR_BG, PAT_COLOR_0, PAT_COLOR_1, PAT_DATA_0, PAT_DATA_1, CH3_OFFSET, CH3_MODE_STR, CH3_WIDHI, BASE_OFFSET, BLT_MODE, VECTOR_MODE, LUT_INDEX, VEC_ERR, VEC_LEN, word}
 use Rattle.model.specs.Ring.{word_at}
 use Rattle.model.specs.Lookup.{data_type, data_count, bad_count, index_after, data_stored}
-use Rattle.model.specs.declared.Drawn.{Drawn}
-use Rattle.model.specs.declared.Drawn.TheVariants.{Nothing, Draws}
+use Rattle.model.specs.declared.Primitive.{Primitive}
 use Rattle.model.specs.declared.Kind.{Kind}
 use Rattle.model.specs.declared.Kind.TheVariants.{Blt, Vector, Table, Data}
 use Rattle.model.specs.declared.Primitive.TheVariants.{Blt as BltPrimitive, Vector as VectorPrimitive}
@@ -82,13 +81,13 @@ command_length Data counted = data_length (data_count counted)
 -- ---- what it draws
 
 -- "If the last enable (BLT 15, vector 12) is clear, the command only loads its enabled registers."
-abbrev pub drawn_of : Kind → ℕ → Drawn
-drawn_of Blt header = if set? header 15 then Draws BltPrimitive else Nothing
-drawn_of Vector header = if set? header 12 then Draws VectorPrimitive else Nothing
-drawn_of Table header = Nothing
-drawn_of Data header = Nothing
+abbrev pub drawn_of : Kind → ℕ → Option Primitive
+drawn_of Blt header = if set? header 15 then Some BltPrimitive else None
+drawn_of Vector header = if set? header 12 then Some VectorPrimitive else None
+drawn_of Table header = None
+drawn_of Data header = None
 
-unfoldable pub drawn_by : ℕ → Drawn
+unfoldable pub drawn_by : ℕ → Option Primitive
 drawn_by header = drawn_of (kind_of header) header
 
 -- ---- waiting for a command of so many words, with W or without

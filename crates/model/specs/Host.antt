@@ -1,6 +1,6 @@
 -- Host sources: how the pixels of a BLT lie in the data words that it takes, counted from 0 over all its data commands (document
 -- 02, W5; 000, 6.3.8.2 with Tables 6-23 and 6-24, and 6.4.2.2).
-use Rattle.std.specs.Prelude.{ℕ, ◌+◌, ◌-◌, ◌*◌, ◌/◌, ◌%◌, Bool, false, not, ◌&&◌, ◌||◌, List, if◌then◌else◌}
+use Rattle.std.specs.Prelude.{ℕ, ◌+◌, ◌-◌, ◌*◌, ◌/◌, ◌%◌, Bool, false, not, ◌&&◌, ◌||◌, List, if◌then◌else◌, Option, Some}
 use Rattle.model.specs.Choice.{◌<?◌, ◌=?◌}
 use Rattle.model.specs.Bits.{bit, field}
 use Rattle.model.specs.Registers.{word, SRC_OFFSET, format_code, source_skip, source_mode, source_select, width}
@@ -12,8 +12,6 @@ use Rattle.model.specs.BltPixel.{mono_mode, mono_source_of, color_pattern_of, bl
 use Rattle.model.specs.declared.Host.{Host}
 use Rattle.model.specs.declared.Primitive.{Primitive}
 use Rattle.model.specs.declared.Primitive.TheVariants.{Blt, Vector}
-use Rattle.model.specs.declared.SourceValue.{SourceValue}
-use Rattle.model.specs.declared.SourceValue.TheVariants.{Value}
 
 -- ---- where the pixels lie
 
@@ -84,12 +82,12 @@ bytes_from depth word n = field word (8 * n + 8 * depth - 1) (8 * n)
 
 -- what the word that holds pixel k gives it: of a mono source a bit, bit 7 of a byte first, which becomes what it would in frame
 -- memory; of a colour source a value
-unfoldable pub host_value : List ℕ → (k word : ℕ) → SourceValue
+unfoldable pub host_value : List ℕ → (k word : ℕ) → Option ℕ
 host_value registers k word =
     let n = host_pixel registers k % 4 in
     if mono_mode registers
     then expand (mono_source_of registers) (bit (bytes_from 1 word n) (bit_number (source_skip registers) (column_of (blt_of registers).destination k)))
-    else Value (bytes_from (depth_of (format_of (format_code registers))) word n)
+    else Some (bytes_from (depth_of (format_of (format_code registers))) word n)
 
 -- frame memory after pixel number k, which this word holds
 unfoldable pub draw_host : (registers table : List ℕ) → (k word : ℕ) → List ℕ → List ℕ

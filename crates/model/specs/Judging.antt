@@ -1,5 +1,5 @@
 -- Refusals 23 to 28: what a command that draws is judged by, on the registers as they would be after loading.
-use Rattle.std.specs.Prelude.{ℕ, Bool, true, false, not, ◌||◌, ◌&&◌, List, [], ◌∷◌, pos}
+use Rattle.std.specs.Prelude.{ℕ, Bool, false, not, ◌||◌, ◌&&◌, List, [], ◌∷◌, pos, Option, is_none}
 use Rattle.std.specs.Int.Signed.{lt_z}
 use Rattle.model.specs.Choice.{◌=?◌}
 use Rattle.model.specs.Refusals.{Rule, ◌when◌, first}
@@ -9,14 +9,11 @@ use Rattle.model.specs.Rectangle.{rectangle_outside}
 use Rattle.model.specs.BltPixel.{mono_mode, blt_of, source_outside}
 use Rattle.model.specs.Host.{straddles}
 use Rattle.model.specs.VectorPixel.{vector_of, vector_outside}
-use Rattle.model.specs.declared.Format.{Format}
-use Rattle.model.specs.declared.Format.TheVariants.{Bytes, Refused}
 use Rattle.model.specs.declared.Primitive.{Primitive}
 use Rattle.model.specs.declared.Primitive.TheVariants.{Blt, Vector}
 
-abbrev pub refused_format : Format → Bool
-refused_format (Bytes n) = false
-refused_format Refused = true
+abbrev pub refused_format : Option ℕ → Bool
+refused_format = is_none
 
 module _ (registers : List ℕ) where
   -- 23: "colour format not one of the five .., or alpha enabled"

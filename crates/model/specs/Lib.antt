@@ -1,5 +1,6 @@
 pub mod Choice
 pub mod Refusals
+pub mod Numbers
 pub mod Bits
 pub mod Limits
 pub mod Registers

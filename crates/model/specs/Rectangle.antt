@@ -1,6 +1,6 @@
 -- A rectangle of pixels in frame memory: an offset, bytes a pixel, and two axes, each with a count, a step in bytes and a
 -- direction. "Source pixels go the same way with their own offset and stride."
-use Rattle.std.specs.Prelude.{ℕ, ◌+◌, ◌-◌, ◌*◌, ◌/◌, ◌%◌, Bool, if◌then◌else◌}
+use Rattle.std.specs.Prelude.{ℕ, ◌+◌, ◌-◌, ◌*◌, ◌/◌, ◌%◌, Bool, if◌then◌else◌, Option}
 use Rattle.model.specs.Bounds.{added, taken, first_byte, outside, extent}
 use Rattle.model.specs.declared.Axis.{Axis}
 use Rattle.model.specs.declared.Extent.{Extent}
@@ -52,5 +52,5 @@ abbrev pub rectangle_outside : ℕ → Rectangle → Bool
 rectangle_outside framelength r = outside framelength r.depth (pixels_of r) r.offset (plus r) (minus r)
 
 -- the lowest and the highest byte of its pixels, or outside
-abbrev pub rectangle_extent : ℕ → Rectangle → Extent
+abbrev pub rectangle_extent : ℕ → Rectangle → Option Extent
 rectangle_extent framelength r = extent framelength r.depth (pixels_of r) r.offset (plus r) (minus r)

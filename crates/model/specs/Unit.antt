@@ -1,5 +1,5 @@
 -- One unit of work, and n of them (document 01, Units, and how a run ends; document 02, W5).
-use Rattle.std.specs.Prelude.{ℕ, zero, suc, ◌+◌, ◌-◌, Bool, true, false, ◌&&◌, ◌||◌, List, [], ◌++◌, get_or, if◌then◌else◌}
+use Rattle.std.specs.Prelude.{ℕ, zero, suc, ◌+◌, ◌-◌, Bool, true, false, ◌&&◌, ◌||◌, List, [], ◌++◌, get_or, if◌then◌else◌, Option, Some, None}
 use Rattle.model.specs.Choice.{◌≤?◌, ◌=?◌}
 use Rattle.model.specs.Refusals.{Rule, first}
 use Rattle.model.specs.Ring.{waiting, word_at}
@@ -12,8 +12,6 @@ use Rattle.model.specs.BltPixel.{color_pattern_of, blt_of, draw_tiled}
 use Rattle.model.specs.Host.{host_word, draw_host, takes_data}
 use Rattle.model.specs.VectorPixel.{vector_of, draw_vector}
 use Rattle.model.specs.declared.Core.{Core}
-use Rattle.model.specs.declared.Drawn.{Drawn}
-use Rattle.model.specs.declared.Drawn.TheVariants.{Nothing, Draws}
 use Rattle.model.specs.declared.Feed.{Feed}
 use Rattle.model.specs.declared.Primitive.{Primitive}
 use Rattle.model.specs.declared.Primitive.TheVariants.{Blt, Vector}
@@ -75,9 +73,9 @@ unfoldable pub header_refusal : List ℕ → Core → ℕ
 header_refusal ring c = first (rules_at ring c)
 
 -- "23 to 28 only for commands that draw, on the registers as they would be after loading"
-abbrev pub drawn_rules : Drawn → List ℕ → ℕ → List Rule
-drawn_rules Nothing registers framelength = []
-drawn_rules (Draws primitive) registers framelength = judge_rules primitive registers framelength
+abbrev pub drawn_rules : Option Primitive → List ℕ → ℕ → List Rule
+drawn_rules None registers framelength = []
+drawn_rules (Some primitive) registers framelength = judge_rules primitive registers framelength
 
 abbrev pub command_rules : List ℕ → Core → List Rule
 command_rules ring c =
@@ -114,14 +112,14 @@ stopped c number = record {
 }
 
 -- "A command is retired by its last pixel, or by its load if it draws nothing"
-abbrev pub completion_after : Drawn → ℕ → ℕ
-completion_after Nothing completion = retired completion
-completion_after (Draws primitive) completion = completion
+abbrev pub completion_after : Option Primitive → ℕ → ℕ
+completion_after None completion = retired completion
+completion_after (Some primitive) completion = completion
 
 -- W5: a BLT with host source "takes its pixels from the data commands that follow"
-abbrev pub place_after : Drawn → (registers : List ℕ) → Place
-place_after Nothing registers = Idle
-place_after (Draws primitive) registers = if takes_data primitive registers then Wanting 0 else Drawing primitive 0
+abbrev pub place_after : Option Primitive → (registers : List ℕ) → Place
+place_after None registers = Idle
+place_after (Some primitive) registers = if takes_data primitive registers then Wanting 0 else Drawing primitive 0
 
 -- "Loading moves the read pointer and enabled registers."
 unfoldable pub loaded_core : List ℕ → Core → Core

@@ -1,13 +1,12 @@
 -- "A vector pixel" (document 01): the pixels of a vector, in the order in which they are drawn.
-use Rattle.std.specs.Prelude.{ℕ, zero, suc, ◌+◌, Bool, List, ℤ, pos, ◌+ℤ◌, ◌-ℤ◌, if◌then◌else◌}
+use Rattle.std.specs.Prelude.{ℕ, zero, suc, ◌+◌, Bool, List, ℤ, pos, ◌+ℤ◌, ◌-ℤ◌, if◌then◌else◌, Option}
 use Rattle.std.specs.Int.Signed.{lt_z}
 use Rattle.model.specs.Choice.{◌<?◌}
 use Rattle.model.specs.Registers.{word, SRC_COLOR_FG, PAT_COLOR_0, format_code, raster_code, destination_address, axial_field, diagonal_field, destination_stride, vector_length, initial_field, minor_positive, major_positive, y_major}
 use Rattle.model.specs.Formats.{format_of, depth_of}
 use Rattle.model.specs.Bounds.{first_byte, outside, extent}
-use Rattle.model.specs.Operands.{draw_operands}
+use Rattle.model.specs.Operands.{draw_operands, values}
 use Rattle.model.specs.declared.Extent.{Extent}
-use Rattle.model.specs.declared.Operands.TheVariants.{Values}
 use Rattle.model.specs.declared.Vector.{Vector}
 use Rattle.model.specs.declared.Position.{Position}
 
@@ -73,7 +72,7 @@ vector_outside framelength v =
     outside framelength v.depth v.length v.offset (λ k. (position v k).plus) (λ k. (position v k).minus)
 
 -- and where they lie
-abbrev pub vector_extent : ℕ → Vector → Extent
+abbrev pub vector_extent : ℕ → Vector → Option Extent
 vector_extent framelength v =
     extent framelength v.depth v.length v.offset (λ k. (position v k).plus) (λ k. (position v k).minus)
 
@@ -84,4 +83,4 @@ vector_byte v k = first_byte v.offset (position v k).plus (position v k).minus
 -- "Source is SRC_COLOR_FG, pattern PAT_COLOR_0; the raster rule and destination reads are a BLT's."
 unfoldable pub draw_vector : Vector → ℕ → List ℕ → List ℕ
 draw_vector v k frame =
-    draw_operands v.depth v.code (vector_byte v k) (Values v.color v.foreground) frame
+    draw_operands v.depth v.code (vector_byte v k) (values v.color v.foreground) frame

@@ -1,6 +1,9 @@
 // The types that every crate shares. What they mean is in specs/, a file for each part of the rules.
 #![tactic(auto)]
 
+ghost use Rattle.std.specs.Prelude.{◌≡◌};
+ghost use Rattle.model.specs.Numbers.{number};
+
 // ---- limits, and the registers by their numbers (specs/Limits and specs/Registers have the same)
 
 pub const RING_LEAST: usize = 1024;
@@ -62,17 +65,67 @@ pub const VEC_ERR: usize = SRC_OFFSET;
 
 pub const VEC_LEN: usize = WID_HEIGHT;
 
-// ---- what the registers and headers say
+// ---- refusals
 
-// The decision on a colour format's code: its bytes a pixel, or refusal.
-#[derive(Clone, Copy)]
-pub enum Format {
-    Bytes(usize),
-    Refused,
+// Why a call or a command is refused: the rows of the refusal table, in the order of their numbers.
+#[derive(Clone, Copy, Debug, PartialEq, Eq)]
+pub enum Refusal {
+    // of a call
+    RingLength,
+    FrameLength,
+    UnfitState,
+    LentLength,
+    NoPosition,
+    NoRoom,
+    NotStopped,
+    // of a command
+    BadHeader,
+    BadReturn,
+    BadFormat,
+    BadModes,
+    NoPixels,
+    BadTerms,
+    DestinationOutside,
+    SourceOutside,
+    BadTableCount,
+    DataWanted,
+    DataUnwanted,
+    BadDataCount,
 }
 
+impl From<Refusal> for u32 {
+    ghost from_gives = { λ refusal r. r ≡ number refusal };
+
+    // Its number.
+    fn from(refusal: Refusal) -> u32 {
+        match refusal {
+            Refusal::RingLength => 1,
+            Refusal::FrameLength => 2,
+            Refusal::UnfitState => 3,
+            Refusal::LentLength => 4,
+            Refusal::NoPosition => 5,
+            Refusal::NoRoom => 6,
+            Refusal::NotStopped => 7,
+            Refusal::BadHeader => 21,
+            Refusal::BadReturn => 22,
+            Refusal::BadFormat => 23,
+            Refusal::BadModes => 24,
+            Refusal::NoPixels => 25,
+            Refusal::BadTerms => 26,
+            Refusal::DestinationOutside => 27,
+            Refusal::SourceOutside => 28,
+            Refusal::BadTableCount => 29,
+            Refusal::DataWanted => 30,
+            Refusal::DataUnwanted => 31,
+            Refusal::BadDataCount => 32,
+        }
+    }
+}
+
+// ---- what the registers and headers say
+
 // The kind of a command, as its header gives it.
-#[derive(Clone, Copy)]
+#[derive(Clone, Copy, Debug, PartialEq, Eq)]
 pub enum Kind {
     Blt,
     Vector,
@@ -81,17 +134,10 @@ pub enum Kind {
 }
 
 // What can be drawn.
-#[derive(Clone, Copy)]
+#[derive(Clone, Copy, Debug, PartialEq, Eq)]
 pub enum Primitive {
     Blt,
     Vector,
-}
-
-// What a command draws, if it draws.
-#[derive(Clone, Copy)]
-pub enum Drawn {
-    Nothing,
-    Draws(Primitive),
 }
 
 // ---- the engine state
@@ -124,7 +170,8 @@ pub struct Core {
     pub ringlength: usize,
     pub framelength: usize,
     pub completion: u32,
-    // 0, or the number of the refusal that stopped the engine
+    // 0, or the number of the refusal that stopped the engine. (A number: a state that comes in may hold any, and row 3 refuses a bad
+    // one, `Calls.bad_stop`.)
     pub stop: u32,
     pub place: Place,
 }
@@ -139,22 +186,24 @@ pub struct State {
 
 // ---- answers
 
-// Where pixels lie in frame memory: their lowest and their highest byte, or some byte of one outside.
+// Where pixels lie that lie in frame memory: their lowest and their highest byte.
 #[derive(Clone, Copy)]
-pub enum Extent {
-    Inside { low: usize, high: usize },
-    Outside,
+pub struct Extent {
+    pub low: usize,
+    pub high: usize,
 }
 
 // The word that a run reports.
-#[derive(Clone, Copy)]
+#[derive(Clone, Copy, Debug, PartialEq, Eq)]
 pub enum RunWord {
     Stopped,
     Waiting,
     Spent,
 }
 
-// What a call answers: its refusal's number; or, accepted, the room after it; or, from a run, also its word and its units.
+// What a call answers: its refusal's number; or, accepted, the room after it; or, from a run, also its word and its units. (No
+// Result, since there are three answers; and the number, since the rules that `Calls.answered` and the refusal table speak of are
+// numbers, to be read beside the paper's own.)
 #[derive(Clone, Copy)]
 pub enum Reply {
     Refused(u32),
@@ -226,13 +275,6 @@ pub struct Host {
     pub bits: usize,
 }
 
-// What a source gives a pixel: nothing is written there, or a value.
-#[derive(Clone, Copy)]
-pub enum SourceValue {
-    Transparent,
-    Value(u32),
-}
-
 // A mono pattern: its eight rows, the row and column of the first pixel, the colours of a clear and a set bit, and whether a
 // clear bit writes nothing.
 #[derive(Clone, Copy)]
@@ -253,19 +295,19 @@ pub enum Pattern {
     Mono(MonoPattern),
 }
 
-// A BLT's colour pattern, which stands in place of its other pattern: none, or its tile in the lookup table, with the row and
-// column of the first pixel.
+// A BLT's colour pattern, which stands in place of its other pattern: its tile lies in the lookup table, and the first pixel has this
+// row and column of it.
 #[derive(Clone, Copy)]
-pub enum ColorPattern {
-    Absent,
-    Tile { row: usize, column: usize },
+pub struct TileOrigin {
+    pub row: usize,
+    pub column: usize,
 }
 
-// What a pixel gets beside what stands there: nothing is written, or a pattern and a source value are combined with it.
+// The values that are combined with what stands at a pixel.
 #[derive(Clone, Copy)]
-pub enum Operands {
-    Nothing,
-    Values { pattern: u32, source: u32 },
+pub struct Operands {
+    pub pattern: u32,
+    pub source: u32,
 }
 
 // A BLT as its registers describe it, with its raster operation.
