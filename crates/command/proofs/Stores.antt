@@ -3,16 +3,10 @@ use Prim.Native.Nat.{ℕ, zero, suc, ◌+◌, ◌*◌, ◌/◌, ◌%◌, ◌<◌
 use mathlib.Core.Path.{◌≡◌, refl, sym, ◌∙◌}
 use mathlib.Core.List.{List}
 use native.Mathlib.Omega.{arith}
-use native.Mathlib.Nat.{mod-add-mod}
-use lib.ListN.{length, get_or, set}
+use lib.ListN.{set}
 use Rattle.model.specs.Bits.{field}
 use Rattle.model.specs.Ring.{word_at}
 use Rattle.model.specs.Lookup.{next_index, data_stored}
-
-pub next_from : (size read i : ℕ) {from : ℕ} → from ≡ (read + i) % size → (from + 1) % size ≡ (read + (i + 1)) % size
-next_from size read i e =
-    let s : read + i + 1 ≡ read + (i + 1) = omega arith in
-    rw (e, ← s) (mod-add-mod (read + i) size 1)
 
 low_field : (index : ℕ) → field index 8 0 ≡ index % 512
 low_field index = omega arith
@@ -48,12 +42,12 @@ module _ (ring : List ℕ) (read : ℕ) where
       ∙ rw (f, e) (sym (low_index (i + 1) n (next_index (field index 8 0)) (set table (field index 8 0) word)))
 
   -- the next word, at a place of the table
-  pub stored_next : (i n to : ℕ) (table : List ℕ) {from : ℕ} → to < 512 → from ≡ (read + i) % length ring
-      → data_stored ring read i (suc n) to table ≡ data_stored ring read (i + 1) n ((to + 1) % 512) (set table to (get_or ring from 0))
-  unfolding data_stored word_at
-  stored_next i n to table h e =
+  pub stored_next : (i n to : ℕ) (table : List ℕ) → to < 512
+      → data_stored ring read i (suc n) to table ≡ data_stored ring read (i + 1) n ((to + 1) % 512) (set table to (word_at ring read i))
+  unfolding data_stored
+  stored_next i n to table h =
       let f : field to 8 0 ≡ to = omega arith in
-      rw (e, next_place to h, f)
+      rw (next_place to h, f)
 
   pub stored_end : (i n to : ℕ) (table : List ℕ) → n ≡ 0 → data_stored ring read i n to table ≡ table
   unfolding data_stored

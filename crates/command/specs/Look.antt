@@ -1,6 +1,6 @@
 -- What stands at the read pointer, by the header there and, of a table load or a data command, its count word: a command that waits for
 -- more words, one that these refuse, or a whole one.
-use Rattle.std.specs.Prelude.{ℕ, ◌+◌, ◌≤◌, ◌<◌, ◌≡◌, Bool, not, ◌||◌, List, if◌then◌else◌}
+use Rattle.std.specs.Prelude.{ℕ, ◌+◌, ◌≤◌, ◌<◌, ◌≡◌, Bool, not, ◌||◌, List, if◌then◌else◌, Option, None}
 use Rattle.std.proofs.Math.Path.{refl}
 use Rattle.std.proofs.Common.{ap, subst, ◌∙◌, arith}
 use Rattle.std.proofs.Math.Bool.{true, false}
@@ -9,6 +9,7 @@ use Rattle.model.specs.Choice.{◌<?◌, ◌≤?◌, ◌=?◌}
 use Rattle.model.proofs.Choice.{neither, nonzero}
 use Rattle.model.specs.Bits.{field}
 use Rattle.model.specs.Limits.{table_length}
+use Rattle.model.specs.Numbers.{number}
 use Rattle.model.specs.Refusals.{first, positive}
 use Rattle.model.proofs.Refusals.{none_first}
 use Rattle.model.specs.Ring.{waiting}
@@ -16,13 +17,27 @@ use Rattle.model.specs.Lookup.{data_type, data_count, bad_count}
 use Rattle.model.specs.Command.{returns, kind_of, bad_header, is_data, count_word, command_length, drawn_by, bad_return, bad_table, bad_data_word, header_rules, bad_start, judged_words, whole_words, read_after, loaded_table}
 use Rattle.model.specs.Unit.{wants, header_at, loaded_at, counted_at, length_at, returns_at, rules_at, header_refusal, drawn_rules, command_refusal, needed, ready, table_after}
 use Rattle.model.specs.declared.Core.{Core}
-use Rattle.model.specs.declared.Drawn.{Drawn}
-use Rattle.model.specs.declared.Drawn.TheVariants.{Nothing}
+use Rattle.model.specs.declared.Primitive.{Primitive}
 use Rattle.model.specs.declared.Kind.{Kind}
 use Rattle.model.specs.declared.Kind.TheVariants.{Blt as BltKind, Vector as VectorKind, Table as TableKind, Data as DataKind}
 use Rattle.laws.specs.Fit.{command_first}
 use Rattle.command.specs.declared.Seen.{Seen}
-use Rattle.command.specs.declared.Seen.TheVariants.{Waits, Refused, Whole, Table, Data}
+use Rattle.command.specs.declared.Seen.TheVariants.{Waits as SeenWaits, Refused as SeenRefused, Whole as SeenWhole, Table as SeenTable, Data as SeenData}
+
+-- what stands there, with a refusal by its number
+pub data Sight : Type 0 where
+  Waits : Sight
+  Refused : (number : ℕ) → Sight
+  Whole : Option Primitive → (next : ℕ) → Sight
+  Table : (count next : ℕ) → Sight
+  Data : (count : ℕ) (returns : Bool) → Sight
+
+abbrev pub numbered : Seen → Sight
+numbered SeenWaits = Waits
+numbered (SeenRefused refusal) = Refused (number refusal)
+numbered (SeenWhole drawn next) = Whole drawn next
+numbered (SeenTable count next) = Table count next
+numbered (SeenData count w) = Data count w
 
 -- so many words must wait before the command is accepted or, where its header or its count word gives a number, refused by that;
 -- `wanting` says whether a BLT wants data
@@ -32,13 +47,13 @@ needed_words wanting size read header length number =
     else if bad_start wanting header then 1 else judged_words (kind_of header)
 
 -- a whole command: a table load or a data command with its count, any other with what it draws
-abbrev pub whole : Kind → Drawn → (count next : ℕ) → (w : Bool) → Seen
+abbrev pub whole : Kind → Option Primitive → (count next : ℕ) → (w : Bool) → Sight
 whole BltKind drawn count next w = Whole drawn next
 whole VectorKind drawn count next w = Whole drawn next
 whole TableKind drawn count next w = Table count next
 whole DataKind drawn count next w = Data count w
 
-unfoldable pub look : (wanting : Bool) → (size read write header counted : ℕ) → Seen
+unfoldable pub look : (wanting : Bool) → (size read write header counted : ℕ) → Sight
 look wanting size read write header counted =
     let length = command_length (kind_of header) counted in
     let number = first (header_rules wanting size read header counted) in
@@ -57,17 +72,17 @@ is_ready wanting size read write header counted =
 -- ---- the same by cases
 
 -- a number that is judged as soon as so many words wait
-abbrev pub refused_at : (there judged number : ℕ) → Seen
+abbrev pub refused_at : (there judged number : ℕ) → Sight
 refused_at there judged number = if judged ≤? there then Refused number else Waits
 
 -- a BLT or vector of so many words
-abbrev pub plain_seen : (size read there length : ℕ) → Bool → Drawn → Seen
+abbrev pub plain_seen : (size read there length : ℕ) → Bool → Option Primitive → Sight
 plain_seen size read there length w drawn =
     if bad_return size read length w then refused_at there 1 22
     else if whole_words size read length w ≤? there then Whole drawn (read_after size read length w)
     else Waits
 
-abbrev pub table_seen : (size read there : ℕ) → Bool → (counted : ℕ) → Seen
+abbrev pub table_seen : (size read there : ℕ) → Bool → (counted : ℕ) → Sight
 table_seen size read there w counted =
     let length = command_length TableKind counted in
     if bad_count counted then refused_at there 3 29
@@ -75,7 +90,7 @@ table_seen size read there w counted =
     else if whole_words size read length w ≤? there then Table (data_count counted) (read_after size read length w)
     else Waits
 
-abbrev pub data_seen : (size read there : ℕ) → Bool → (counted : ℕ) → Seen
+abbrev pub data_seen : (size read there : ℕ) → Bool → (counted : ℕ) → Sight
 data_seen size read there w counted =
     let length = command_length DataKind counted in
     if bad_data_word size counted then refused_at there 2 32
@@ -84,11 +99,11 @@ data_seen size read there w counted =
     else Waits
 
 -- while a BLT wants data
-abbrev pub wanted_seen : (size read there : ℕ) → Bool → Kind → (counted : ℕ) → Seen
+abbrev pub wanted_seen : (size read there : ℕ) → Bool → Kind → (counted : ℕ) → Sight
 wanted_seen size read there w kind counted = if is_data kind then data_seen size read there w counted else refused_at there 1 30
 
 -- a number of two rules that are judged with as many words, or a whole command
-counted_seen : (there judged bad across whole : ℕ) (a b : Bool) (seen : Seen) → (bad =? 0) ≡ false → (across =? 0) ≡ false
+counted_seen : (there judged bad across whole : ℕ) (a b : Bool) (seen : Sight) → (bad =? 0) ≡ false → (across =? 0) ≡ false
     → (if (if (if a then bad else if b then across else 0) =? 0 then whole else judged) ≤? there
     then (if (if a then bad else if b then across else 0) =? 0 then seen else Refused (if a then bad else if b then across else 0))
     else Waits)
@@ -168,7 +183,7 @@ look_count size read write header a b h = go (kind_of header) (bad_header header
 
 -- ---- what that says of the unit of an engine that draws nothing
 
-pub record WholeAt (ring : List ℕ) (c : Core) (write : ℕ) (drawn : Drawn) (next : ℕ) : Type 0 where
+pub record WholeAt (ring : List ℕ) (c : Core) (write : ℕ) (drawn : Option Primitive) (next : ℕ) : Type 0 where
   pub is_ready_holds : ready ring c write ≡ true
   pub header_taken : header_refusal ring c ≡ 0
   pub refusal : command_refusal ring c ≡ first (drawn_rules drawn (loaded_at ring c) c.framelength)
@@ -180,7 +195,7 @@ pub record WholeAt (ring : List ℕ) (c : Core) (write : ℕ) (drawn : Drawn) (n
 pub record TableAt (ring : List ℕ) (c : Core) (write count next : ℕ) : Type 0 where
   pub is_ready_holds : ready ring c write ≡ true
   pub accepted : command_refusal ring c ≡ 0
-  pub drawn_is : drawn_by (header_at ring c) ≡ Nothing
+  pub drawn_is : drawn_by (header_at ring c) ≡ None
   pub next_is : read_after c.ringlength c.read (length_at ring c) (returns_at ring c) ≡ next
   pub kind_is : kind_of (header_at ring c) ≡ TableKind
   pub count_is : count ≡ data_count (counted_at ring c)
@@ -194,7 +209,7 @@ pub record DataAt (ring : List ℕ) (c : Core) (write count : ℕ) (w : Bool) : 
   pub count_is : count ≡ data_count (counted_at ring c)
   pub returns_is : w ≡ returns_at ring c
 
-abbrev pub SeenAt : List ℕ → Core → ℕ → Seen → Type 0
+abbrev pub SeenAt : List ℕ → Core → ℕ → Sight → Type 0
 SeenAt ring c write Waits = ready ring c write ≡ false
 SeenAt ring c write (Refused number) = (ready ring c write ≡ true) × (command_refusal ring c ≡ number) × (0 < number)
 SeenAt ring c write (Whole drawn next) = WholeAt ring c write drawn next
@@ -228,7 +243,7 @@ module _ (ring : List ℕ) (c : Core) where
       go DataKind e = rw e
 
 module _ (ring : List ℕ) (c : Core) (write : ℕ) where
-  abbrev whole_at : Kind → Seen
+  abbrev whole_at : Kind → Sight
   whole_at k =
       whole k (drawn_by (header_at ring c)) (data_count (counted_at ring c))
       (read_after c.ringlength c.read (length_at ring c) (returns_at ring c)) (returns_at ring c)
@@ -260,7 +275,7 @@ module _ (ring : List ℕ) (c : Core) (write : ℕ) where
       }
       go TableKind e =
           let g = good_count (counted_at ring c) (subst (λ (k : Kind). bad_table k (counted_at ring c) ≡ false) e (header_count ring c p)) in
-          let d : drawn_by (header_at ring c) ≡ Nothing = unfold drawn_by in rw e in
+          let d : drawn_by (header_at ring c) ≡ None = unfold drawn_by in rw e in
           record {
             is_ready_holds = q;
             accepted = refusal ∙ rw d (unfold first in refl);
@@ -272,7 +287,7 @@ module _ (ring : List ℕ) (c : Core) (write : ℕ) where
             most = g.1;
           }
       go DataKind e =
-          let d : drawn_by (header_at ring c) ≡ Nothing = unfold drawn_by in rw e in
+          let d : drawn_by (header_at ring c) ≡ None = unfold drawn_by in rw e in
           record {
             is_ready_holds = q;
             accepted = refusal ∙ rw d (unfold first in refl);
@@ -285,7 +300,7 @@ module _ (ring : List ℕ) (c : Core) (write : ℕ) where
   unfolding ready needed header_refusal
   ready_at = refl
 
-  pub look_at : (seen : Seen) → seen ≡ look (wants c.place) c.ringlength c.read write (header_at ring c) (counted_at ring c)
+  pub look_at : (seen : Sight) → seen ≡ look (wants c.place) c.ringlength c.read write (header_at ring c) (counted_at ring c)
       → SeenAt ring c write seen
   unfolding look ready needed header_refusal
   look_at seen e = rw e (go (header_refusal ring c =? 0) (ready ring c write) refl refl)

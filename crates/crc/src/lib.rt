@@ -1,23 +1,14 @@
 // CRC-32, as zip and PNG have it.
 #![tactic(auto)]
 
-ghost use Rattle.std.specs.Prelude.{◌≡◌, ◌<◌};
+ghost use Rattle.std.specs.Prelude.{◌≡◌};
 ghost use Rattle.crc.specs.Crc.{crc_bit, crc_byte, crc32};
-
-fn wide(x: u8) -> u32
-    ensures { (result ≡ x) × (result < 256) }
-{
-    x as u32
-}
 
 fn crc_bit(c: u32) -> u32
     ensures { result ≡ crc_bit c }
 {
     let half = c / 2;
-    if c % 2 == 0 {
-        return half;
-    }
-    half ^ 0xEDB88320
+    if c % 2 == 0 { half } else { half ^ 0xEDB88320 }
 }
 
 fn crc_half(c: u32) -> u32
@@ -29,7 +20,7 @@ fn crc_half(c: u32) -> u32
 fn crc_byte(c: u32, byte: u8) -> u32
     ensures { result ≡ crc_byte c byte }
 {
-    crc_half(crc_half(c ^ wide(byte)))
+    crc_half(crc_half(c ^ u32::from(byte)))
 }
 
 // The checksum of some bytes.
@@ -37,10 +28,8 @@ pub fn crc32(bytes: &[u8]) -> u32
     ensures { result ≡ crc32 bytes.now }
 {
     let mut c = 0xFFFFFFFF;
-    let mut i = 0;
-    while i < bytes.len() {
-        c = crc_byte(c, bytes[i]);
-        i += 1;
+    for byte in bytes {
+        c = crc_byte(c, *byte);
     }
     c ^ 0xFFFFFFFF
 }

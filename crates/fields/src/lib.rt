@@ -6,7 +6,7 @@ ghost use Rattle.model.specs.Bits.{field, set?};
 ghost use Rattle.model.specs.Formats.{format_of, depth_of};
 ghost use Rattle.model.specs.Registers.{granule, destination_address, source_address};
 
-use model::{BASE_OFFSET, DST_OFFSET, Format, GRANULE, REGISTERS, SRC_OFFSET};
+use model::{BASE_OFFSET, DST_OFFSET, GRANULE, REGISTERS, SRC_OFFSET};
 
 // Bits high:low of a word; the field is narrower than the word.
 pub fn bits(word: u32, high: u32, low: u32) -> u32
@@ -33,17 +33,17 @@ pub fn is_set(word: u32, i: u32) -> bool
     (word >> i) % 2 == 1
 }
 
-// The bytes a pixel of a colour format's code, or refusal, for every code.
-pub fn format(code: u32) -> Format
+// The bytes a pixel of a colour format's code, for every code; none where it is refused.
+pub fn format(code: u32) -> Option<usize>
     ensures { result ≡ format_of code }
 {
     match code {
-        0b0000 => Format::Bytes(1),
-        0b0100 => Format::Bytes(2),
-        0b0101 => Format::Bytes(2),
-        0b0110 => Format::Bytes(2),
-        0b1000 => Format::Bytes(4),
-        _ => Format::Refused,
+        0b0000 => Some(1),
+        0b0100 => Some(2),
+        0b0101 => Some(2),
+        0b0110 => Some(2),
+        0b1000 => Some(4),
+        _ => None,
     }
 }
 
@@ -51,10 +51,7 @@ pub fn format(code: u32) -> Format
 pub fn depth_of(code: u32) -> usize
     ensures { result ≡ depth_of (format_of code) }
 {
-    match format(code) {
-        Format::Bytes(n) => n,
-        Format::Refused => 0,
-    }
+    format(code).unwrap_or(0)
 }
 
 // The byte that a base, counted in granules, and the offset of an offset register name together. No sum wraps: it can be more than 32

@@ -1,19 +1,26 @@
 // The ring's arithmetic, and its words by wrapped position. Pointers are below the ring size.
-#![tactic(auto)]
+// (Size and pointers are the state's own numbers, and two or three stand in a contract; a struct would be made for one call each.)
+#![tactic(auto, unfolding(model::specs::Ring::waiting, model::specs::Ring::room))]
 
 ghost use Rattle.std.specs.Prelude.{◌≡◌, ◌<◌, ◌≤◌, length};
+ghost use Rattle.model.specs.Numbers.{number_of_check};
 ghost use Rattle.model.specs.Refusals.{first};
 ghost use Rattle.model.specs.Ring.{distance, waiting, room, position_rules, word_at};
 
+use model::Refusal;
+
 // How many words lead from one position on to another.
 fn gap(size: usize, from: usize, to: usize) -> usize
-    requires { (from < size) × (to < size) }
-    ensures { (result ≡ distance size from to) × (result < size) }
+    requires from_in { from < size }
+    requires to_in { to < size }
+    ensures is { result ≡ distance size from to }
+    ensures within { result < size }
 {
     if from <= to {
-        return to - from;
+        to - from
+    } else {
+        size - from + to
     }
-    size - from + to
 }
 
 // How many words wait.
@@ -32,20 +39,18 @@ pub fn room_left(size: usize, read: usize, write: usize) -> usize
     size - 1 - waiting_words(size, read, write)
 }
 
-// The number that refuses position p, or 0 where it may be published, for any p.
-pub fn publish_refusal(size: usize, read: usize, write: usize, p: usize) -> u32
+// Whether position p may be published, for any p.
+pub fn check_position(size: usize, read: usize, write: usize, p: usize) -> Result<(), Refusal>
     requires { (read < size) × (write < size) }
-    ensures { result ≡ first (position_rules size read write p) }
+    ensures { number_of_check result ≡ first (position_rules size read write p) }
 {
     if size <= p {
-        return 5;
+        Err(Refusal::NoPosition)
+    } else if gap(size, read, p) < waiting_words(size, read, write) {
+        Err(Refusal::NoRoom)
+    } else {
+        Ok(())
     }
-    let there = waiting_words(size, read, write);
-    let ahead = gap(size, read, p);
-    if ahead < there {
-        return 6;
-    }
-    0
 }
 
 // Word number i from position at, across the ring's end.
@@ -56,8 +61,8 @@ pub fn word_at(ring: &[u32], at: usize, i: usize) -> u32
     let size = ring.len();
     let ahead = at + i;
     if ahead < size {
-        return ring[ahead];
+        ring[ahead]
+    } else {
+        ring[ahead - size]
     }
-    let wrapped = ahead - size;
-    ring[wrapped]
 }

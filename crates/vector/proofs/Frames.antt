@@ -1,22 +1,23 @@
 -- The pixels of a vector in frame memory.
-use Prim.Native.Nat.{ℕ, zero, suc, ◌+◌, ◌-◌, ◌*◌, ◌≤◌, ◌<◌}
+use Rattle.std.proofs.Common.{Option, None}
+use Prim.Native.Nat.{ℕ, zero, suc, ◌+◌, ◌-◌, ◌*◌, ◌≤◌, ◌<◌, min, max}
 use mathlib.Core.Path.{◌≡◌, refl, sym, ap, ◌∙◌}
 use mathlib.Core.Bool.{Bool, true, false}
 use mathlib.Core.List.{List}
-use mathlib.Core.Logic.{◌⊎◌, inl, inr, ⊎_elim}
+use mathlib.Core.Logic.{⊎_elim}
 use native.Mathlib.Omega.{arith}
 use native.Mathlib.Numerals.{add-one}
 use borrow.Author.Tests.{lt-ltb, le-ltb, le-leb, lt-leb, ltb-true, ltb-false}
+use Rattle.std.specs.Prelude.{if◌then◌else◌}
 use Rattle.model.specs.Choice.{◌<?◌}
 use Rattle.model.proofs.Choice.{true_or_false, not_both}
-use Rattle.model.specs.Bounds.{byte_outside, some, outside, first_byte, least, greatest, extent}
+use Rattle.model.specs.Bounds.{byte_outside, some, outside, first_byte, least, greatest, extent, inside}
 use Rattle.model.specs.Formats.{Depth}
 use Rattle.model.specs.Pixel.{read_pixel, store_pixel}
 use Rattle.model.specs.Raster.{raster}
 use Rattle.model.specs.Operands.{draw_operands}
 use Rattle.model.specs.VectorPixel.{position, vector_outside, vector_extent, vector_byte, draw_vector}
 use Rattle.model.specs.declared.Extent.{Extent}
-use Rattle.model.specs.declared.Extent.TheVariants.{Inside, Outside}
 use Rattle.model.specs.declared.Vector.{Vector}
 use Rattle.model.specs.declared.Position.{Position}
 use Rattle.laws.specs.Pixels.{depth_least}
@@ -63,28 +64,34 @@ module _ (size depth plus minus : ℕ) where
 
 -- ---- the lowest and the highest of k numbers and one more
 
--- `next` is `new` where a is below b, else `old`
-abbrev pub Chosen : (a b new old next : ℕ) → Type 0
-Chosen a b new old next = ((a < b) × (next ≡ new)) ⊎ ((b ≤ a) × (next ≡ old))
-
 one_less : (k : ℕ) → suc k - 1 ≡ k
 one_less k = omega arith
 
-module _ (f : ℕ → ℕ) where
-  least_next : (k : ℕ) {at low next : ℕ} → at ≡ f k → low ≡ least (k - 1) f → Chosen at low at low next → next ≡ least k f
-  unfolding least
-  least_next zero p q (inl w) = absurd (omega arith)
-  least_next zero p q (inr w) = w.1 ∙ q
-  least_next (suc k) p q (inl w) = let r = rw (one_less k) at q in rw (lt-ltb (f (suc k)) (least k f) (omega arith)) (w.1 ∙ p)
-  least_next (suc k) p q (inr w) = let r = rw (one_less k) at q in rw (le-ltb (f (suc k)) (least k f) (omega arith)) (w.1 ∙ r)
+-- what the definitions pick by a test is the lower number, or the higher
+lower : (a b : ℕ) → min b a ≡ (if a <? b then a else b)
+lower a b = go (a <? b) refl
+  where
+    go : (t : Bool) → (a <? b) ≡ t → min b a ≡ (if t then a else b)
+    go true e = let l = ltb-true a b e in omega arith
+    go false e = let l = ltb-false a b e in omega arith
 
-  greatest_next : (k d : ℕ) {after end next : ℕ} → after ≡ f k + d → end ≡ greatest (k - 1) f + d → Chosen end after after end next
-      → next ≡ greatest k f + d
+higher : (a b d : ℕ) → max (a + d) (b + d) ≡ (if a <? b then b else a) + d
+higher a b d = go (a <? b) refl
+  where
+    go : (t : Bool) → (a <? b) ≡ t → max (a + d) (b + d) ≡ (if t then b else a) + d
+    go true e = let l = ltb-true a b e in omega arith
+    go false e = let l = ltb-false a b e in omega arith
+
+module _ (f : ℕ → ℕ) where
+  least_next : (k : ℕ) {at low : ℕ} → at ≡ f k → low ≡ least (k - 1) f → min low at ≡ least k f
+  unfolding least
+  least_next zero p q = omega (arith, p, q)
+  least_next (suc k) p q = let r = rw (one_less k) at q in rw (p, r) (lower (f (suc k)) (least k f))
+
+  greatest_next : (k d : ℕ) {after end : ℕ} → after ≡ f k + d → end ≡ greatest (k - 1) f + d → max end after ≡ greatest k f + d
   unfolding greatest
-  greatest_next zero d p q (inl w) = absurd (omega arith)
-  greatest_next zero d p q (inr w) = w.1 ∙ q
-  greatest_next (suc k) d p q (inl w) = let r = rw (one_less k) at q in rw (lt-ltb (greatest k f) (f (suc k)) (omega arith)) (w.1 ∙ p)
-  greatest_next (suc k) d p q (inr w) = let r = rw (one_less k) at q in rw (le-ltb (greatest k f) (f (suc k)) (omega arith)) (w.1 ∙ r)
+  greatest_next zero d p q = omega (arith, p, q)
+  greatest_next (suc k) d p q = let r = rw (one_less k) at q in rw (p, r) (higher (greatest k f) (f (suc k)) d)
 
 -- ---- the first k pixels of a vector
 
@@ -109,32 +116,31 @@ module _ (size : ℕ) (v : Vector) where
   module _ (k : ℕ) {s : Position} (e : s ≡ position v k) where
     -- one pixel more
     pub seen_more : {low end low' end' : ℕ} → Seen k low end → s.minus ≤ v.offset + s.plus → byte_at s + v.depth ≤ size
-        → Chosen (byte_at s) low (byte_at s) low low' → Chosen end (byte_at s + v.depth) (byte_at s + v.depth) end end'
-        → Seen (k + 1) low' end'
+        → low' ≡ min low (byte_at s) → end' ≡ max end (byte_at s + v.depth) → Seen (k + 1) low' end'
     unfolding some
     seen_more h p q l m =
         let n : k + 1 - 1 ≡ k = omega arith in
         let i : position_outside (position v k) ≡ false = rw e at (pixel_in size v.depth (v.offset + s.plus) s.minus p q) in
         record {
           inside = rw add-one (simp (h.inside, i));
-          lowest = rw n (least_next (λ i. byte_at (position v i)) k (ap byte_at e) h.lowest l);
-          highest = rw n (greatest_next (λ i. byte_at (position v i)) k v.depth (ap (λ (s : Position). byte_at s + v.depth) e) h.highest m);
+          lowest = rw n (l ∙ least_next (λ i. byte_at (position v i)) k (ap byte_at e) h.lowest);
+          highest = rw n (m ∙ greatest_next (λ i. byte_at (position v i)) k v.depth (ap (λ (s : Position). byte_at s + v.depth) e) h.highest);
         }
 
     -- a pixel outside
     module _ (l : k < v.length) (d : Depth v.depth) where
-      is_outside_lem : position_outside s ≡ true → Outside ≡ vector_extent size v
+      is_outside_lem : position_outside s ≡ true → None ≡ vector_extent size v
       unfolding outside extent
       is_outside_lem h = rw (some_at v.length (λ i. position_outside (position v i)) k l (rw e at h))
 
-      pub is_below : v.offset + s.plus < s.minus → Outside ≡ vector_extent size v
+      pub is_below : v.offset + s.plus < s.minus → None ≡ vector_extent size v
       is_below p = is_outside_lem (pixel_below size v.depth _ _ d p)
 
-      pub is_above : s.minus ≤ v.offset + s.plus → size < byte_at s + v.depth → Outside ≡ vector_extent size v
+      pub is_above : s.minus ≤ v.offset + s.plus → size < byte_at s + v.depth → None ≡ vector_extent size v
       is_above p q = is_outside_lem (pixel_above size v.depth _ _ d p q)
 
   -- all of them
-  pub seen_all : {k low end : ℕ} → k ≡ v.length → Depth v.depth → Seen k low end → Inside low (end - 1) ≡ vector_extent size v
+  pub seen_all : {k low end : ℕ} → k ≡ v.length → Depth v.depth → Seen k low end → inside low (end - 1) ≡ vector_extent size v
   unfolding outside extent
   seen_all {k} {low} {end} e d h =
       let g = rw e at h in
@@ -162,7 +168,7 @@ module _ (size : ℕ) (v : Vector) where
       (some_not v.length (λ i. position_outside (position v i)) k f.inside l))
 
   -- an extent tells whether some byte lies outside
-  pub extent_tells : {e : Extent} → e ≡ vector_extent size v → is_outside e ≡ vector_outside size v
+  pub extent_tells : {e : Option Extent} → e ≡ vector_extent size v → is_outside e ≡ vector_outside size v
   extent_tells q =
       sym (extent_outside size v.depth v.length v.offset (λ k. (position v k).plus) (λ k. (position v k).minus) q)
 

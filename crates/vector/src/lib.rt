@@ -1,4 +1,5 @@
 // Vectors: the registers that describe one, the steps from pixel to pixel, the bytes that it reaches, and its drawing.
+// `RangedVector v` stands in the contracts: registers that judging refuses describe a vector without it, so it is no invariant of the type.
 #![tactic(auto)]
 
 ghost use Rattle.std.specs.Prelude.{◌≡◌, ◌||◌, ◌+◌, ◌^◌, ◌≤◌, ◌<◌, length, pos};
@@ -24,10 +25,10 @@ const BIAS: usize = 32768;
 fn biased(x: i16) -> usize
     ensures { (x ≡ unbiased result) × (result < 65536) }
 {
-    (x as i32 + 32768) as usize
+    (i32::from(x) + 32768) as usize
 }
 
-// The signed number that a biased one stands for.
+// The signed number that a biased one stands for. `i16::try_from` would answer a Result that has no Err.
 fn from_biased(x: usize) -> i16
     requires { x < 65536 }
     ensures { result ≡ unbiased x }
@@ -36,14 +37,11 @@ fn from_biased(x: usize) -> i16
 }
 
 // A 16-bit field as a signed number.
-fn signed(x: usize) -> i16
+fn signed(x: u32) -> i16
     requires { x < 65536 }
     ensures { result ≡ signed16 x }
 {
-    if x < BIAS {
-        return from_biased(x + BIAS);
-    }
-    from_biased(x - BIAS)
+    (x as u16).cast_signed()
 }
 
 // ---- what the registers describe
@@ -61,9 +59,9 @@ pub fn vector_of(registers: [u32; REGISTERS]) -> Vector
     let offset = fields::destination_address(registers);
     let stride = fields::number(registers[STRIDE], 15, 0);
     let length = fields::number(size, 27, 16);
-    let axial = signed(fields::number(terms, 31, 16));
-    let diagonal = signed(fields::number(terms, 15, 0));
-    let initial = signed(fields::number(size, 15, 0));
+    let axial = signed(fields::bits(terms, 31, 16));
+    let diagonal = signed(fields::bits(terms, 15, 0));
+    let initial = signed(fields::bits(size, 15, 0));
     let ymajor = fields::is_set(mode, 0);
     let majorpositive = fields::is_set(mode, 1);
     let minorpositive = fields::is_set(mode, 2);
@@ -88,15 +86,7 @@ pub fn vector_of(registers: [u32; REGISTERS]) -> Vector
 pub fn bad_terms(v: Vector) -> bool
     ensures { result ≡ (lt_z v.axial (pos 0) || lt_z (pos 0) v.diagonal) }
 {
-    let axial = v.axial;
-    let diagonal = v.diagonal;
-    if axial < 0 {
-        return true;
-    }
-    if 0 < diagonal {
-        return true;
-    }
-    false
+    v.axial < 0 || 0 < v.diagonal
 }
 
 // ---- the steps
@@ -105,22 +95,14 @@ pub fn bad_terms(v: Vector) -> bool
 fn major_step(v: Vector) -> usize
     ensures { result ≡ major_step v }
 {
-    let ymajor = v.ymajor;
-    if ymajor {
-        return v.stride;
-    }
-    v.depth
+    if v.ymajor { v.stride } else { v.depth }
 }
 
-// The bytes of a step along the minor axis.
+// The bytes of a step along the minor axis. That it is the other one of the two is plainest as a line of its own.
 fn minor_step(v: Vector) -> usize
     ensures { result ≡ minor_step v }
 {
-    let ymajor = v.ymajor;
-    if ymajor {
-        return v.depth;
-    }
-    v.stride
+    if v.ymajor { v.depth } else { v.stride }
 }
 
 // n bytes further, or back.
@@ -128,20 +110,16 @@ fn shifted(positive: bool, n: usize, s: Position) -> Position
     requires { (n < 2 ^ 32) × (s.plus < 2 ^ 33) × (s.minus < 2 ^ 33) }
     ensures { result ≡ moved positive n s }
 {
-    let plus = s.plus;
-    let minus = s.minus;
-    let error = s.error;
     if positive {
-        return Position {
-            plus: plus + n,
-            minus,
-            error,
-        };
-    }
-    Position {
-        plus,
-        minus: minus + n,
-        error,
+        Position {
+            plus: s.plus + n,
+            ..s
+        }
+    } else {
+        Position {
+            minus: s.minus + n,
+            ..s
+        }
     }
 }
 
@@ -151,24 +129,18 @@ fn next(v: Vector, s: Position) -> Position
     requires { (RangedVector v) × (Near s) }
     ensures { result ≡ step v s }
 {
-    let error = s.error;
-    let axial = v.axial;
-    let diagonal = v.diagonal;
-    let majorpositive = v.majorpositive;
-    let minorpositive = v.minorpositive;
-    let along = shifted(majorpositive, major_step(v), s);
-    if error < 0 {
-        return Position {
-            plus: along.plus,
-            minus: along.minus,
-            error: error + axial,
-        };
-    }
-    let aside = shifted(minorpositive, minor_step(v), along);
-    Position {
-        plus: aside.plus,
-        minus: aside.minus,
-        error: error + diagonal,
+    let along = shifted(v.majorpositive, major_step(v), s);
+    if s.error < 0 {
+        Position {
+            error: s.error + v.axial,
+            ..along
+        }
+    } else {
+        let aside = shifted(v.minorpositive, minor_step(v), along);
+        Position {
+            error: s.error + v.diagonal,
+            ..aside
+        }
     }
 }
 
@@ -181,14 +153,14 @@ fn diagonal_steps(initial: usize, axial: usize, diagonal: usize, k: usize) -> us
     ensures { result ≡ diagonals initial axial diagonal k }
 {
     let total = initial + k * (axial - BIAS);
-    if total < diagonal {
-        return 0;
-    }
     let less = axial - diagonal;
-    if total - diagonal < k * less {
-        return (total - diagonal) / less;
+    if total < diagonal {
+        0
+    } else if total - diagonal < k * less {
+        (total - diagonal) / less
+    } else {
+        k
     }
-    k
 }
 
 // The biased error after k steps, n of them diagonal.
@@ -222,39 +194,28 @@ fn position_of(v: Vector, k: usize) -> Position
 
 // Where the pixels of a vector lie in a frame memory of so many bytes. Every pixel is looked at: where the two signs differ, one
 // in the middle can reach furthest.
-pub fn extent(framelength: usize, v: Vector) -> Extent
+pub fn extent(framelength: usize, v: Vector) -> Option<Extent>
     requires { RangedVector v }
     ensures { result ≡ vector_extent framelength v }
 {
-    let depth = v.depth;
-    let length = v.length;
-    let offset = v.offset;
-    let mut low = offset;
-    let mut end = offset + depth;
+    let mut low = v.offset;
+    let mut end = v.offset + v.depth;
     let mut s = position_of(v, 0);
-    let mut k = 0;
-    while k < length {
-        let plus = s.plus;
-        let minus = s.minus;
-        let sum = offset + plus;
-        if sum < minus {
-            return Extent::Outside;
+    for k in 0..v.length {
+        let sum = v.offset + s.plus;
+        if sum < s.minus {
+            return None;
         }
-        let at = sum - minus;
-        let after = at + depth;
+        let at = sum - s.minus;
+        let after = at + v.depth;
         if framelength < after {
-            return Extent::Outside;
+            return None;
         }
-        if at < low {
-            low = at;
-        }
-        if end < after {
-            end = after;
-        }
+        low = low.min(at);
+        end = end.max(after);
         s = next(v, s);
-        k += 1;
     }
-    Extent::Inside { low, high: end - 1 }
+    Some(Extent { low, high: end - 1 })
 }
 
 // Whether some byte of some pixel of the vector lies outside. No pixel has more added to its offset, or more taken away, than the
@@ -263,20 +224,12 @@ pub fn outside(framelength: usize, v: Vector) -> bool
     requires { RangedVector v }
     ensures { result ≡ vector_outside framelength v }
 {
-    let depth = v.depth;
-    let offset = v.offset;
     let last = position_of(v, v.length - 1);
-    let top = offset + last.plus;
-    let minus = last.minus;
-    if minus <= offset {
-        if top + depth <= framelength {
-            return false;
-        }
+    let top = v.offset + last.plus;
+    if last.minus <= v.offset && top + v.depth <= framelength {
+        return false;
     }
-    match extent(framelength, v) {
-        Extent::Inside { low: _, high: _ } => false,
-        Extent::Outside => true,
-    }
+    extent(framelength, v).is_none()
 }
 
 // ---- drawing
@@ -286,17 +239,10 @@ pub fn draw(f: &mut [u8], v: Vector, k: usize, n: usize)
     requires { (FitVector (length f.old) v) × (k + n ≤ v.length) × (length f.old ≤ frame_most) }
     ensures { f.new ≡ vector_pixels v k n f.old }
 {
-    let depth = v.depth;
-    let offset = v.offset;
     let blend = pixel::blend_of(v.code, v.color, v.foreground);
     let mut s = position_of(v, k);
-    let mut i = 0;
-    while i < n {
-        let plus = s.plus;
-        let minus = s.minus;
-        let at = offset + plus - minus;
-        pixel::apply(f, depth, at, blend);
+    for i in 0..n {
+        pixel::apply(f, v.depth, v.offset + s.plus - s.minus, blend);
         s = next(v, s);
-        i += 1;
     }
 }

@@ -1,16 +1,20 @@
+use Prim.Native.Nat.{◌+◌, ◌≤◌}
 use mathlib.Core.Path.{sym, ◌∙◌}
 use native.Mathlib.Omega.{arith}
-use Rattle.command.proofs.Loads.{plain_loaded, piece_length, piece_words}
+use lib.ListN.{length}
+use Rattle.command.proofs.Loads.{plain_loaded, piece_words}
 use Rattle.command.proofs.load.Goals as goal
 
-pub slice_bounds-load_piece-end : goal.slice_bounds-load_piece-end
-slice_bounds-load_piece-end c = omega (arith, (c.in_piece-piece.ensures c.if-piece.true).1)
+pub returns-in-Blt : goal.returns-in-Blt
+returns-in-Blt c = let a = c.args in
+    let l : a.read + 17 ≤ length a.ring.now = omega arith in
+    c.load_piece.ensures a.ring.now a.read (piece_words 16 a.ring.now a.read l) ∙ sym (plain_loaded a.ring.now a.read a.header a.registers c.requires.0)
 
-pub load_piece-requires : goal.load_piece-requires
-load_piece-requires c = let p = c.in_piece-piece.ensures c.if-piece.true in (piece_length 16 c.args.ring.now c.args.read p.1, sym c.kind_of.ensures ∙ p.0)
+pub returns-in-Vector : goal.returns-in-Vector
+returns-in-Vector c = let a = c.args in
+    let l : a.read + 14 ≤ length a.ring.now = omega arith in
+    c.load_piece-in-Vector.ensures a.ring.now a.read (piece_words 13 a.ring.now a.read l)
+    ∙ sym (plain_loaded a.ring.now a.read a.header a.registers c.requires.0)
 
-pub returns-then-piece : goal.returns-then-piece
-returns-then-piece c = c.load_piece.ensures c.args.ring.now c.args.read (piece_words 16 c.args.ring.now c.args.read (c.in_piece-piece.ensures c.if-piece.true).1)
-
-pub returns : goal.returns
-returns c = let a = c.args in c.load_words.ensures ∙ sym (plain_loaded a.ring.now a.read a.header a.registers c.requires.0)
+pub returns-in_default : goal.returns-in_default
+returns-in_default c = let a = c.args in c.load_each.ensures ∙ sym (plain_loaded a.ring.now a.read a.header a.registers c.requires.0)

@@ -1,12 +1,8 @@
-use Prim.Native.Nat.{◌-◌, ◌≤◌}
 use mathlib.Core.Path.{◌≡◌}
 use lib.ListN.{drop}
 use Rattle.model.specs.Command.{word_registers, load_words}
 use Rattle.command.proofs.load_each.Given as goal
 
 abbrev pub invariant-loop-i : goal.invariant-loop-i
-invariant-loop-i l = (l.i ≤ l.count)
-    × (load_words l.ring l.read l.header (word_registers l.kind) 0 l.initial.out ≡ load_words l.ring l.read l.header (drop l.i (word_registers l.kind)) l.i l.out)
-
-abbrev pub decreases-loop-i : goal.decreases-loop-i
-decreases-loop-i l = l.count - l.i
+invariant-loop-i l =
+    load_words l.ring l.read l.header (word_registers l.kind) 0 l.initial.out ≡ load_words l.ring l.read l.header (drop l.i (word_registers l.kind)) l.i l.out

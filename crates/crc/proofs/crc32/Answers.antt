@@ -9,10 +9,15 @@ use lib.ListN.{length, drop}
 use Rattle.crc.specs.Crc.{crc_over, crc32}
 use Rattle.crc.proofs.crc32.Goals as goal
 
-pub loop-i-preserved : goal.loop-i-preserved
+pub loop-byte-preserved : goal.loop-byte-preserved
 unfolding crc_over
-loop-i-preserved c = (omega arith, let h : c.loop-i.i < length c.args.bytes.now = omega arith in rw (c.crc_byte-c.ensures, add-one) (sym (ap (crc_over c.loop-i.c) (drop-cons _ _ 0 h)) ∙ c.loop-i.invariant.1))
+loop-byte-preserved c = let l = c.loop-byte in
+    let h : l.byte-index < length c.args.bytes.now = omega arith in
+    rw (c.crc_byte-c.ensures, add-one) (sym (ap (crc_over l.c) (drop-cons _ _ 0 h)) ∙ l.invariant)
 
 pub returns : goal.returns
 unfolding crc_over crc32
-returns c = let e : c.loop-i.i ≡ length c.args.bytes.now = omega arith in let d : drop c.loop-i.i c.args.bytes.now ≡ [] = rw e (drop-length c.args.bytes.now) in ap (λ (x : ℕ). bit_xor x 0xFFFFFFFF) (sym (ap (crc_over c.loop-i.c) d) ∙ c.loop-i.invariant.1)
+returns c = let l = c.loop-byte in
+    let e : l.byte-index ≡ length c.args.bytes.now = omega arith in
+    let d : drop l.byte-index c.args.bytes.now ≡ [] = rw e (drop-length c.args.bytes.now) in
+    ap (λ (x : ℕ). bit_xor x 0xFFFFFFFF) (sym (ap (crc_over l.c) d) ∙ l.invariant)

@@ -7,6 +7,6 @@ pub returns-then-ahead-size : goal.returns-then-ahead-size
 unfolding word_at
 returns-then-ahead-size c = rw (wrap_before _ _ c.if-ahead-size.true)
 
-pub returns : goal.returns
+pub returns-else-ahead-size : goal.returns-else-ahead-size
 unfolding word_at
-returns c = rw (wrap_past _ _ c.if-ahead-size.false (omega arith))
+returns-else-ahead-size c = rw (wrap_past _ _ c.if-ahead-size.false (omega arith))

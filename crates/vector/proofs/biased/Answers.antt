@@ -34,19 +34,16 @@ module _ (z : ℤ) (f : SFits w16 z) where
   whole : to_z w32 (of_z w32 (to_z w32 (of_z w32 (to_z w16 (of_z w16 z))) +ℤ pos bias)) ≡ pos biased.sum
   whole = rw (first, biased.is) (to_z-of_z w32 (pos biased.sum) (record { sfits = omega (arith, biased.most) }))
 
-pub overflow_cast-result : goal.overflow_cast-result
-overflow_cast-result c = rw (to_z-of_z w16 c.args.x (search rules)) (wide c.args.x (search rules))
-
 pub overflow_add-result : goal.overflow_add-result
 overflow_add-result c = let b = biased c.args.x (search rules) in
-    rw (first c.args.x (search rules), b.is) (record { sfits = omega (arith, b.most) })
+    rw (c.from.ensures, first c.args.x (search rules), b.is) (record { sfits = omega (arith, b.most) })
 
-pub overflow_cast-result-2 : goal.overflow_cast-result-2
-overflow_cast-result-2 c = let b = biased c.args.x (search rules) in
-    rw (whole c.args.x (search rules)) (tt, record { fits = omega (arith, b.most) })
+pub overflow_cast-result : goal.overflow_cast-result
+overflow_cast-result c = let b = biased c.args.x (search rules) in
+    rw (c.from.ensures, whole c.args.x (search rules)) (tt, record { fits = omega (arith, b.most) })
 
 pub returns : goal.returns
 returns c = let z = c.args.x in
     let b = biased z (search rules) in
-    rw (whole z (search rules))
+    rw (c.from.ensures, whole z (search rules))
     (sym (+ℤ-neg_ℤ_cancel z (pos bias)) ∙ ap (λ (y : ℤ). y -ℤ pos bias) b.is, b.most)

@@ -28,6 +28,6 @@ pub returns-then-total-diagonal-2 : goal.returns-then-total-diagonal-2
 returns-then-total-diagonal-2 c =
     let a = c.args in some_diagonal a.initial a.axial a.diagonal c.requires.0 a.k (omega arith) (omega arith)
 
-pub returns : goal.returns
-returns c =
+pub returns-else-total-diagonal-2 : goal.returns-else-total-diagonal-2
+returns-else-total-diagonal-2 c =
     let a = c.args in each_diagonal a.initial a.axial a.diagonal c.requires.0 a.k (omega arith) (omega arith)

@@ -14,12 +14,12 @@ position_of-s-requires c = (c.requires.0.ranged, omega arith)
 pub loop-i-init : goal.loop-i-init
 loop-i-init c = (omega arith, rw add-zero c.position_of-s.ensures, refl, rw (add-zero, sub-zero))
 
-pub overflow_add-at : goal.overflow_add-at
-overflow_add-at c = let r = c.requires.0.ranged in
+pub overflow_add-v : goal.overflow_add-v
+overflow_add-v c = let r = c.requires.0.ranged in
     omega (arith, r.offset_most, position_near _ (c.args.k + c.loop-i.i) r (omega arith) c.loop-i.invariant.1)
 
-pub overflow_sub-at : goal.overflow_sub-at
-overflow_sub-at c = (drawn_inside _ _ (c.args.k + c.loop-i.i) c.requires.0 (omega arith) c.loop-i.invariant.1).0
+pub overflow_sub-v : goal.overflow_sub-v
+overflow_sub-v c = (drawn_inside _ _ (c.args.k + c.loop-i.i) c.requires.0 (omega arith) c.loop-i.invariant.1).0
 
 pub apply-requires : goal.apply-requires
 apply-requires c = let h = drawn_inside _ _ (c.args.k + c.loop-i.i) c.requires.0 (omega arith) c.loop-i.invariant.1 in

@@ -9,6 +9,3 @@ use Rattle.vector.proofs.draw.Given as goal
 abbrev pub invariant-loop-i : goal.invariant-loop-i
 invariant-loop-i l = (l.i ≤ l.n) × (l.s ≡ position l.v (l.k + l.i)) × (length l.f ≡ length l.initial.f)
     × (vector_pixels l.v (l.k + l.i) (l.n - l.i) l.f ≡ vector_pixels l.v l.k l.n l.initial.f)
-
-abbrev pub decreases-loop-i : goal.decreases-loop-i
-decreases-loop-i l = l.n - l.i

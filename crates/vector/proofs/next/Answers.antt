@@ -14,15 +14,15 @@ shifted-along-requires c = omega (arith, steps_most _ c.requires.0, c.major_step
 pub overflow_add-result : goal.overflow_add-result
 overflow_add-result c =
     let axial : Sum w16 c.args.s.error c.args.v.axial true =
-    sum_of w16 true (search rules) (search rules) c.if-error-lt0.true c.requires.0.axial_rises
+    sum_of w16 true (search rules) (search rules) c.if-s-lt0.true c.requires.0.axial_rises
     in
     axial.asked
 
-pub returns-then-error-lt0 : goal.returns-then-error-lt0
+pub returns-then-s-lt0 : goal.returns-then-s-lt0
 unfolding step axial_step
-returns-then-error-lt0 c =
+returns-then-s-lt0 c =
     let axial : Sum w16 c.args.s.error c.args.v.axial true =
-    sum_of w16 true (search rules) (search rules) c.if-error-lt0.true c.requires.0.axial_rises
+    sum_of w16 true (search rules) (search rules) c.if-s-lt0.true c.requires.0.axial_rises
     in
     simp (axial.is, axial.test, c.shifted-along.ensures, c.major_step.ensures)
 
@@ -33,17 +33,17 @@ shifted-aside-requires c =
     rw c.shifted-along.ensures
     (omega (arith, steps_most _ c.requires.0, c.minor_step.ensures, m.ensures, moved_by a.v.majorpositive m.result a.s))
 
-pub overflow_add-result-2 : goal.overflow_add-result-2
-overflow_add-result-2 c =
+pub overflow_add-result-else-s-lt0 : goal.overflow_add-result-else-s-lt0
+overflow_add-result-else-s-lt0 c =
     let diagonal : Sum w16 c.args.s.error c.args.v.diagonal false =
-    sum_of w16 false (search rules) (search rules) c.if-error-lt0.false c.requires.0.diagonal_falls
+    sum_of w16 false (search rules) (search rules) c.if-s-lt0.false c.requires.0.diagonal_falls
     in
     diagonal.asked
 
-pub returns : goal.returns
+pub returns-else-s-lt0 : goal.returns-else-s-lt0
 unfolding step diagonal_step
-returns c =
+returns-else-s-lt0 c =
     let diagonal : Sum w16 c.args.s.error c.args.v.diagonal false =
-    sum_of w16 false (search rules) (search rules) c.if-error-lt0.false c.requires.0.diagonal_falls
+    sum_of w16 false (search rules) (search rules) c.if-s-lt0.false c.requires.0.diagonal_falls
     in
     simp (diagonal.is, diagonal.test, c.shifted-aside.ensures, c.shifted-along.ensures, c.minor_step.ensures, c.major_step.ensures)

@@ -1,5 +1,7 @@
 use Prim.Native.Nat.{◌-◌}
-use mathlib.Core.Path.{sym, ◌∙◌}
+use mathlib.Core.Path.{sym, ap, ◌∙◌}
+use Rattle.std.proofs.Common.{not}
+use Rattle.std.proofs.Math.Bool.{not-not}
 use native.Mathlib.Omega.{arith}
 use Rattle.laws.specs.Pixels.{depth_most}
 use Rattle.laws.specs.Walks.{position_near}
@@ -11,16 +13,13 @@ pub overflow_add-top : goal.overflow_add-top
 overflow_add-top c =
     omega (arith, c.requires.offset_most, position_near _ (c.args.v.length - 1) c.requires (omega arith) c.position_of-last.ensures)
 
-pub overflow_add-top-then-minus-offset : goal.overflow_add-top-then-minus-offset
-overflow_add-top-then-minus-offset c =
+pub overflow_add-top-then-last-v : goal.overflow_add-top-then-last-v
+overflow_add-top-then-last-v c =
     omega (arith, c.requires.offset_most, depth_most c.requires.deep, position_near _ (c.args.v.length - 1) c.requires (omega arith) c.position_of-last.ensures)
 
-pub returns-then-top-depth : goal.returns-then-top-depth
-returns-then-top-depth c = let a = c.args in
+pub returns-then-top-v : goal.returns-then-top-v
+returns-then-top-v c = let a = c.args in
     sym (is_near a.framelength a.v (a.v.length - 1) c.requires c.position_of-last.ensures (omega (arith, c.requires.long)) (omega arith) (omega arith))
 
-pub returns-in-Inside : goal.returns-in-Inside
-returns-in-Inside c = extent_tells _ _ (sym c.in-Inside.is ∙ c.extent.ensures)
-
-pub returns-in-Outside : goal.returns-in-Outside
-returns-in-Outside c = extent_tells _ _ (sym c.in-Outside.is ∙ c.extent.ensures)
+pub returns : goal.returns
+returns c = sym (not-not _) ∙ ap not (sym c.is_none.ensures) ∙ extent_tells _ _ c.extent.ensures

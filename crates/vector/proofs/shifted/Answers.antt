@@ -7,5 +7,5 @@ use Rattle.vector.proofs.shifted.Goals as goal
 pub returns-then-positive : goal.returns-then-positive
 returns-then-positive c = simp (to_z-of_z w16 c.args.s.error (search rules), c.if-positive.true)
 
-pub returns : goal.returns
-returns c = simp (to_z-of_z w16 c.args.s.error (search rules), c.if-positive.false)
+pub returns-else-positive : goal.returns-else-positive
+returns-else-positive c = simp (to_z-of_z w16 c.args.s.error (search rules), c.if-positive.false)

@@ -12,9 +12,9 @@ use Rattle.vector.proofs.vector_of.Goals as goal
 pub returns : goal.returns
 unfolding vector_of
 returns c = let v = vector_of c.args.registers in
-    let axial : to_z w16 (of_z w16 c.signed-axial.result) ≡ v.axial = to_z-of_z w16 c.signed-axial.result (search rules) ∙ c.signed-axial.ensures ∙ ap signed16 c.number.ensures.0 in
-    let diagonal : to_z w16 (of_z w16 c.signed-diagonal.result) ≡ v.diagonal = to_z-of_z w16 c.signed-diagonal.result (search rules) ∙ c.signed-diagonal.ensures ∙ ap signed16 c.number-2.ensures.0 in
-    let initial : to_z w16 (of_z w16 c.signed-initial.result) ≡ v.initial = to_z-of_z w16 c.signed-initial.result (search rules) ∙ c.signed-initial.ensures ∙ ap signed16 c.number-3.ensures.0 in
+    let axial : to_z w16 (of_z w16 c.signed-axial.result) ≡ v.axial = to_z-of_z w16 c.signed-axial.result (search rules) ∙ c.signed-axial.ensures ∙ ap signed16 c.bits-2.ensures.0 in
+    let diagonal : to_z w16 (of_z w16 c.signed-diagonal.result) ≡ v.diagonal = to_z-of_z w16 c.signed-diagonal.result (search rules) ∙ c.signed-diagonal.ensures ∙ ap signed16 c.bits-3.ensures.0 in
+    let initial : to_z w16 (of_z w16 c.signed-initial.result) ≡ v.initial = to_z-of_z w16 c.signed-initial.result (search rules) ∙ c.signed-initial.ensures ∙ ap signed16 c.bits-4.ensures.0 in
     λ t. record {
       depth = (c.depth_of-depth.ensures ∙ ap (λ (x : ℕ). depth_of (format_of x)) c.bits.ensures.0) t;
       length = c.number-length.ensures.0 t;
