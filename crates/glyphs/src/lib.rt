@@ -11,32 +11,25 @@ ghost use Rattle.laws.specs.Eights.{whole_eights};
 ghost use Rattle.laws.specs.Glyphs.{Inked, Window, Apart, Windowed};
 
 use model::{Blt, MonoSource};
-use pixel::Blend;
-
-// What becomes of a pixel whose bit is set, and of one whose bit is clear.
-#[derive(Clone, Copy)]
-struct Inks {
-    set: Blend,
-    clear: Blend,
-}
+use pixel::{Inks, Pixel};
 
 // A bit that is set after inversion draws the foreground, a clear one the background or, with transparency, nothing.
-fn inks_of(b: Blt, color: u32, s: MonoSource) -> Inks
+fn inks_of(b: Blt, color: u32, s: MonoSource) -> Inks<u32>
     requires { (b.pattern ≡ Solid color) × (b.source ≡ Bits s) }
     ensures { Inked b s result.set.flip result.set.keep result.clear.flip result.clear.keep }
 {
     let foreground = pixel::blend_of(b.code, color, s.foreground);
     let background = pixel::blend_unless(s.transparent, b.code, color, s.background);
-    let inversion = s.inversion;
-    if inversion {
-        return Inks {
+    if s.inversion {
+        Inks {
             set: background,
             clear: foreground,
-        };
-    }
-    Inks {
-        set: foreground,
-        clear: background,
+        }
+    } else {
+        Inks {
+            set: foreground,
+            clear: background,
+        }
     }
 }
 
@@ -48,8 +41,8 @@ fn window(f: &[u8], q: usize, shift: usize, c: usize) -> u32
     requires { (shift < 8) × (0 < c) × (c ≤ 8) × (q + (shift + c - 1) / 8 < length f.now) }
     ensures { Window f.now q shift c result }
 {
-    let first = pixel::get1(f, q);
-    let second = pixel::get1(f, q + (shift + c - 1) / 8);
+    let first = u8::load(f, q).wide();
+    let second = u8::load(f, q + (shift + c - 1) / 8).wide();
     ((first * 256 + second) >> (8 - shift)) % 256
 }
 
@@ -59,13 +52,7 @@ fn is_apart(negative: bool, depth: usize, n: usize, to: usize, q: usize, shift: 
     requires { (0 < n) × (n < 2 ^ 32) × (n * depth < 2 ^ 32) × (to < 2 ^ 32) × (q < 2 ^ 32) × (shift < 8) }
     ensures { result ≡ true → Apart negative depth n to q shift }
 {
-    if negative {
-        return false;
-    }
-    if q + (shift + n - 1) / 8 < to {
-        return true;
-    }
-    to + n * depth <= q
+    !negative && (q + (shift + n - 1) / 8 < to || to + n * depth <= q)
 }
 
 // ---- rows by windows
@@ -75,7 +62,7 @@ fn is_apart(negative: bool, depth: usize, n: usize, to: usize, q: usize, shift: 
 fn eights(
     f: &mut [u8],
     b: Blt,
-    inks: Inks,
+    inks: Inks<u32>,
     to: usize,
     q: usize,
     shift: usize,
@@ -86,21 +73,19 @@ fn eights(
     requires { Windowed (length f.old) b i j n inks.set.flip inks.set.keep inks.clear.flip inks.clear.keep to q shift }
     ensures { (result ≡ whole_eights n) × (f.new ≡ row_pixels b i j result f.old) }
 {
-    let mut m = 0;
-    while 8 <= n - m {
-        let d = b.destination;
-        let bits = window(f, q + m / 8, shift, 8);
-        writers::eight(f, d.depth, to + m * d.depth, bits, inks.set, inks.clear);
-        m += 8;
+    let depth = b.destination.depth;
+    for k in 0..n / 8 {
+        let bits = window(f, q + k, shift, 8);
+        writers::eight(f, depth, to + 8 * k * depth, bits, inks);
     }
-    m
+    n - n % 8
 }
 
 // Draws all of them: by eights, and the rest, n % 8, by one window.
 fn by_windows(
     f: &mut [u8],
     b: Blt,
-    inks: Inks,
+    inks: Inks<u32>,
     to: usize,
     q: usize,
     shift: usize,
@@ -111,14 +96,14 @@ fn by_windows(
     requires { Windowed (length f.old) b i j n inks.set.flip inks.set.keep inks.clear.flip inks.clear.keep to q shift }
     ensures { f.new ≡ row_pixels b i j n f.old }
 {
-    let d = b.destination;
+    let depth = b.destination.depth;
     let m = eights(f, b, inks, to, q, shift, i, j, n);
     let c = n % 8;
     if c == 0 {
         return;
     }
     let bits = window(f, q + m / 8, shift, c);
-    writers::few(f, d.depth, to + m * d.depth, bits, inks.set, inks.clear, c);
+    writers::few(f, depth, to + m * depth, bits, inks, c);
 }
 
 // ---- rows
@@ -128,7 +113,7 @@ fn in_order(
     f: &mut [u8],
     b: Blt,
     s: MonoSource,
-    inks: Inks,
+    inks: Inks<u32>,
     to: usize,
     from: usize,
     i: usize,
@@ -138,16 +123,11 @@ fn in_order(
     requires { (Row (length f.old) b i j n) × (Inked b s inks.set.flip inks.set.keep inks.clear.flip inks.clear.keep) × (to ≡ pixel_byte b.destination i j) × (from ≡ pixel_byte s.bytes 0 j) }
     ensures { f.new ≡ row_pixels b i j n f.old }
 {
-    let mut m = 0;
-    while m < n {
-        let d = b.destination;
-        let columns = d.columns;
-        let at = rectangle::along(columns, to, m);
+    for m in 0..n {
+        let at = rectangle::along(b.destination.columns, to, m);
         let x = s.skip + (i + m);
-        let byte = pixel::get1(f, from + x / 8);
-        let ink = writers::choose(byte, x, inks.set, inks.clear);
-        pixel::apply(f, d.depth, at, ink);
-        m += 1;
+        let byte = u8::load(f, from + x / 8);
+        pixel::apply(f, b.destination.depth, at, inks.choose(u32::from(byte), x));
     }
 }
 
@@ -158,16 +138,14 @@ pub fn bits(f: &mut [u8], b: Blt, color: u32, s: MonoSource, i: usize, j: usize,
 {
     let inks = inks_of(b, color, s);
     let d = b.destination;
-    let columns = d.columns;
     let to = rectangle::pixel_byte(d, i, j);
-    let bytes = s.bytes;
-    let from = rectangle::pixel_byte(bytes, 0, j);
+    let from = rectangle::pixel_byte(s.bytes, 0, j);
     let x = s.skip + i;
     let q = from + x / 8;
     let shift = x % 8;
-    if is_apart(columns.negative, d.depth, n, to, q, shift) {
+    if is_apart(d.columns.negative, d.depth, n, to, q, shift) {
         by_windows(f, b, inks, to, q, shift, i, j, n);
-        return;
+    } else {
+        in_order(f, b, s, inks, to, from, i, j, n);
     }
-    in_order(f, b, s, inks, to, from, i, j, n);
 }

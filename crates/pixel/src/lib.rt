@@ -1,5 +1,9 @@
 // One pixel: its bytes in frame memory, the raster operation on it, and the mono pattern's bit for it.
+// `Depth depth` stands in the contracts, here and above, where the bytes a pixel come out of a rectangle: its field holds any number, and a
+// type for them would be made of it anew, with the same fact to prove, at each call.
 #![tactic(auto)]
+
+mod width;
 
 ghost use Rattle.std.specs.Prelude.{◌≡◌, ◌+◌, ◌*◌, ◌%◌, ◌≤◌, ◌<◌, length, if◌then◌else◌};
 ghost use Rattle.model.specs.Choice.{◌<?◌};
@@ -10,92 +14,22 @@ ghost use Rattle.model.specs.Pattern.{pattern_bit, pattern_index};
 ghost use Rattle.laws.specs.Whole.{mask, choice, by_pattern, blended, flip_of, keep_of};
 ghost use Rattle.laws.specs.Patterns.{Turned};
 ghost use Rattle.laws.specs.Changes.{changed};
-ghost use Rattle.laws.specs.Plain.{flip_unless, keep_unless};
-ghost use Rattle.pixel.specs.Prepared.{Prepared};
+ghost use Rattle.laws.specs.Plain.{flip_unless, keep_unless, picked, Narrow};
 
-// ---- bytes
+pub use width::Pixel;
 
-fn wide(x: u8) -> u32
-    ensures { (result ≡ x) × (result < 256) }
-{
-    x as u32
-}
-
-// The value of the pixel of one byte at a byte of frame memory.
-pub fn get1(f: &[u8], at: usize) -> u32
-    requires { at + 1 ≤ length f.now }
-    ensures { result ≡ read_pixel 1 f.now at }
-{
-    let byte = f[at];
-    wide(byte)
-}
-
-// The same of two bytes.
-pub fn get2(f: &[u8], at: usize) -> u32
-    requires { at + 2 ≤ length f.now }
-    ensures { result ≡ read_pixel 2 f.now at }
-{
-    let b = at + 1;
-    wide(f[at]) + 256 * wide(f[b])
-}
-
-// The same of four bytes.
-pub fn get4(f: &[u8], at: usize) -> u32
-    requires { at + 4 ≤ length f.now }
-    ensures { result ≡ read_pixel 4 f.now at }
-{
-    let b = at + 1;
-    let c = b + 1;
-    let d = c + 1;
-    16777216 * wide(f[d]) + 65536 * wide(f[c]) + 256 * wide(f[b]) + wide(f[at])
-}
+// ---- any depth
 
 // The value of the pixel at a byte of frame memory, at any depth.
 pub fn get(depth: usize, f: &[u8], at: usize) -> u32
     requires { (Depth depth) × (at + depth ≤ length f.now) }
     ensures { result ≡ read_pixel depth f.now at }
 {
-    if depth == 1 {
-        return get1(f, at);
+    match depth {
+        1 => u8::load(f, at).wide(),
+        2 => u16::load(f, at).wide(),
+        _ => u32::load(f, at),
     }
-    if depth == 2 {
-        return get2(f, at);
-    }
-    get4(f, at)
-}
-
-// Writes the low byte of a value at a byte of frame memory.
-pub fn put1(f: &mut [u8], at: usize, value: u32)
-    requires { at + 1 ≤ length f.old }
-    ensures { f.new ≡ store_pixel 1 f.old at value }
-{
-    let low = value % 256;
-    f[at] = low as u8;
-}
-
-// Writes the two low bytes.
-pub fn put2(f: &mut [u8], at: usize, value: u32)
-    requires { at + 2 ≤ length f.old }
-    ensures { f.new ≡ store_pixel 2 f.old at value }
-{
-    let b = at + 1;
-    let high = value / 256 % 256;
-    f[at] = (value % 256) as u8;
-    f[b] = high as u8;
-}
-
-// Writes all four bytes.
-pub fn put4(f: &mut [u8], at: usize, value: u32)
-    requires { at + 4 ≤ length f.old }
-    ensures { f.new ≡ store_pixel 4 f.old at value }
-{
-    let b = at + 1;
-    let c = b + 1;
-    let d = c + 1;
-    f[at] = (value % 256) as u8;
-    f[b] = (value / 256 % 256) as u8;
-    f[c] = (value / 256 / 256 % 256) as u8;
-    f[d] = (value / 256 / 256 / 256 % 256) as u8;
 }
 
 // Writes a value's low bytes at a byte of frame memory, at any depth.
@@ -103,20 +37,17 @@ pub fn put(depth: usize, f: &mut [u8], at: usize, value: u32)
     requires { (Depth depth) × (at + depth ≤ length f.old) }
     ensures { f.new ≡ store_pixel depth f.old at value }
 {
-    if depth == 1 {
-        put1(f, at, value);
-        return;
+    match depth {
+        1 => u8::low(value).store(f, at),
+        2 => u16::low(value).store(f, at),
+        _ => value.store(f, at),
     }
-    if depth == 2 {
-        put2(f, at, value);
-        return;
-    }
-    put4(f, at, value);
 }
 
 // ---- the raster operation
 
-// A raster code with a pattern value, made ready for any number of pixels. The four numbers are this crate's own affair.
+// A raster code with a pattern value, made ready for any number of pixels. The four numbers are this crate's own affair: what the code
+// gives at the pattern value, by the bits of destination and source.
 #[derive(Clone, Copy)]
 pub struct Operation {
     pub code: u32,
@@ -125,16 +56,17 @@ pub struct Operation {
     pub destination: u32,
     pub source: u32,
     pub both: u32,
+    ghost neither_is: { neither ≡ by_pattern 32 code pattern 0 },
+    ghost destination_is: { destination ≡ by_pattern 32 code pattern 1 },
+    ghost source_is: { source ≡ by_pattern 32 code pattern 2 },
+    ghost both_is: { both ≡ by_pattern 32 code pattern 3 },
 }
 
 // All ones or all zeros, as the lowest bit says.
 fn spread(x: u32) -> u32
     ensures { result ≡ mask 32 (x % 2) }
 {
-    if x % 2 == 0 {
-        return 0;
-    }
-    4294967295
+    if x % 2 == 0 { 0 } else { u32::MAX }
 }
 
 // Bit by bit x where `by` has 0, y where it has 1.
@@ -154,25 +86,21 @@ fn by_pattern(code: u32, pattern: u32, i: u32) -> u32
 
 // Makes a raster code ready for pixels of one pattern value.
 pub fn prepare(code: u32, pattern: u32) -> Operation
-    ensures { (Prepared result) × (result.code ≡ code) × (result.pattern ≡ pattern) }
+    ensures code { result.code ≡ code }
+    ensures pattern { result.pattern ≡ pattern }
 {
-    let neither = by_pattern(code, pattern, 0);
-    let destination = by_pattern(code, pattern, 1);
-    let source = by_pattern(code, pattern, 2);
-    let both = by_pattern(code, pattern, 3);
     Operation {
         code,
         pattern,
-        neither,
-        destination,
-        source,
-        both,
+        neither: by_pattern(code, pattern, 0),
+        destination: by_pattern(code, pattern, 1),
+        source: by_pattern(code, pattern, 2),
+        both: by_pattern(code, pattern, 3),
     }
 }
 
 // The raster operation on a whole pixel; its low bytes are those of the operands' low bytes.
 pub fn combine(op: Operation, source: u32, destination: u32) -> u32
-    requires { Prepared op }
     ensures { result ≡ raster 32 op.code op.pattern source destination }
 {
     let low = choose(op.neither, op.destination, destination);
@@ -182,11 +110,10 @@ pub fn combine(op: Operation, source: u32, destination: u32) -> u32
 
 // Draws one pixel at a byte of frame memory, at any depth.
 pub fn paint(f: &mut [u8], op: Operation, depth: usize, at: usize, source: u32)
-    requires { (Prepared op) × (Depth depth) × (at + depth ≤ length f.old) }
+    requires { (Depth depth) × (at + depth ≤ length f.old) }
     ensures { f.new ≡ store_pixel depth f.old at (raster (8 * depth) op.code op.pattern source (read_pixel depth f.old at)) }
 {
-    let destination = get(depth, f, at);
-    let value = combine(op, source, destination);
+    let value = combine(op, source, get(depth, f, at));
     put(depth, f, at, value);
 }
 
@@ -194,18 +121,38 @@ pub fn paint(f: &mut [u8], op: Operation, depth: usize, at: usize, source: u32)
 
 // What becomes of a pixel: its bits where `keep` has 1, xor `flip`.
 #[derive(Clone, Copy)]
-pub struct Blend {
-    pub flip: u32,
-    pub keep: u32,
+pub struct Blend<P> {
+    pub flip: P,
+    pub keep: P,
+}
+
+impl<P: Pixel> Blend<P> {
+    // What a blend is to pixels of their own width: the bits above them are not stored.
+    pub fn narrow(b: Blend<u32>) -> Blend<P>
+        ensures { Narrow P.BYTES b.flip b.keep (P.number result.flip) (P.number result.keep) }
+    {
+        Blend {
+            flip: P::low(b.flip),
+            keep: P::low(b.keep),
+        }
+    }
+
+    // Applies the blend to the pixel at a byte of frame memory.
+    pub fn apply(self, f: &mut [u8], at: usize)
+        requires { at + P.BYTES ≤ length f.old }
+        ensures { f.new ≡ changed P.BYTES (blended (P.number self.flip) (P.number self.keep)) at f.old }
+    {
+        P::load(f, at).blend(self.flip, self.keep).store(f, at);
+    }
 }
 
 // What a raster code makes of a pixel, for one pattern and one source value.
-pub fn blend_of(code: u32, pattern: u32, source: u32) -> Blend
+pub fn blend_of(code: u32, pattern: u32, source: u32) -> Blend<u32>
     ensures { (result.flip ≡ flip_of code pattern source) × (result.keep ≡ keep_of code pattern source) }
 {
     let op = prepare(code, pattern);
     let flip = combine(op, source, 0);
-    let set = combine(op, source, 4294967295);
+    let set = combine(op, source, u32::MAX);
     Blend {
         flip,
         keep: flip ^ set,
@@ -213,25 +160,68 @@ pub fn blend_of(code: u32, pattern: u32, source: u32) -> Blend
 }
 
 // The same, or, where nothing is to be written, the blend that keeps all.
-pub fn blend_unless(nothing: bool, code: u32, pattern: u32, source: u32) -> Blend
+pub fn blend_unless(nothing: bool, code: u32, pattern: u32, source: u32) -> Blend<u32>
     ensures { (result.flip ≡ flip_unless nothing code pattern source) × (result.keep ≡ keep_unless nothing code pattern source) }
 {
     if nothing {
-        return Blend {
+        Blend {
             flip: 0,
-            keep: 4294967295,
-        };
+            keep: u32::MAX,
+        }
+    } else {
+        blend_of(code, pattern, source)
     }
-    blend_of(code, pattern, source)
 }
 
 // Applies a blend to the pixel at a byte of frame memory, at any depth.
-pub fn apply(f: &mut [u8], depth: usize, at: usize, b: Blend)
+pub fn apply(f: &mut [u8], depth: usize, at: usize, b: Blend<u32>)
     requires { (Depth depth) × (at + depth ≤ length f.old) }
     ensures { f.new ≡ changed depth (blended b.flip b.keep) at f.old }
 {
     let old = get(depth, f, at);
-    put(depth, f, at, b.flip ^ (old & b.keep));
+    put(depth, f, at, old.blend(b.flip, b.keep));
+}
+
+// What becomes of a pixel whose bit is set, and of one whose bit is clear.
+#[derive(Clone, Copy)]
+pub struct Inks<P> {
+    pub set: Blend<P>,
+    pub clear: Blend<P>,
+}
+
+impl<P: Pixel> Inks<P> {
+    // What they are to pixels of their own width.
+    pub fn narrow(inks: Inks<u32>) -> Inks<P>
+        ensures set { Narrow P.BYTES inks.set.flip inks.set.keep (P.number result.set.flip) (P.number result.set.keep) }
+        ensures clear { Narrow P.BYTES inks.clear.flip inks.clear.keep (P.number result.clear.flip) (P.number result.clear.keep) }
+    {
+        Inks {
+            set: Blend::narrow(inks.set),
+            clear: Blend::narrow(inks.clear),
+        }
+    }
+
+    // The blend that the bit of pixel i says.
+    pub fn choose(self, bits: u32, i: usize) -> Blend<P>
+        ensures flip { P.number result.flip ≡ picked bits i (P.number self.set.flip) (P.number self.clear.flip) }
+        ensures keep { P.number result.keep ≡ picked bits i (P.number self.set.keep) (P.number self.clear.keep) }
+    {
+        let by = 7 - i % 8;
+        if (bits >> by) % 2 == 1 {
+            self.set
+        } else {
+            self.clear
+        }
+    }
+}
+
+// Of two values the one for pixel i, by eight bits that come round: bit 7 is the first pixel's. The bits are no wider than two bytes, or
+// the compiler makes wider lanes than the pixels need.
+pub fn pick<P: Pixel>(bits: u16, i: usize, set: P, clear: P) -> P
+    ensures { P.number result ≡ picked bits i (P.number set) (P.number clear) }
+{
+    let by = 7 - i % 8;
+    if (bits >> by) % 2 == 1 { set } else { clear }
 }
 
 // ---- the mono pattern
@@ -243,9 +233,10 @@ pub fn pattern_bit(data0: u32, data1: u32, row: usize, column: usize) -> u32
 {
     let i = 8 * (row % 4) + (7 - column);
     if row < 4 {
-        return (data0 >> i) % 2;
+        (data0 >> i) % 2
+    } else {
+        (data1 >> i) % 2
     }
-    (data1 >> i) % 2
 }
 
 // A pattern row or column, n steps from the first pixel's.
@@ -254,19 +245,17 @@ pub fn pattern_index(negative: bool, low: usize, n: usize) -> usize
     ensures { (result ≡ pattern_index negative low n) × (result < 8) }
 {
     if negative {
-        return (low + 8 * n - n) % 8;
+        (low + 8 * n - n) % 8
+    } else {
+        (low + n) % 8
     }
-    (low + n) % 8
 }
 
 // The word that has a pattern row.
 fn pattern_word(data0: u32, data1: u32, row: usize) -> u32
     ensures { result ≡ (if row <? 4 then data0 else data1) }
 {
-    if 4 <= row {
-        return data1;
-    }
-    data0
+    if 4 <= row { data1 } else { data0 }
 }
 
 // The eight bits of a pattern row from a column on and round, bit 7 first. What stands above them is of no account.

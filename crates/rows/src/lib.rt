@@ -1,5 +1,7 @@
 // Rows of a BLT: n pixels of row j, from column i. One loop serves every source and pattern; faster ones stand beside it, behind
 // the same contract.
+// What a row asks (`Row .. b i j n`) ties frame memory, BLT and place, which are lent apart, so it stands in the contracts and in no type.
+// The place is three numbers, since each row counts on from them; a struct would be taken apart at once.
 #![tactic(auto)]
 
 ghost use Rattle.std.specs.Prelude.{◌≡◌, ◌^◌, ◌<◌, length};
@@ -14,21 +16,18 @@ ghost use Rattle.laws.specs.Changes.{Changes};
 ghost use Rattle.laws.specs.Plain.{Plain, Served};
 
 use model::{Blt, MonoPattern, Rectangle};
-use pixel::Blend;
+use pixel::{Blend, Inks};
 
 // Any source and pattern.
 pub fn general(f: &mut [u8], b: Blt, i: usize, j: usize, n: usize)
     requires { Row (length f.old) b i j n }
     ensures { f.new ≡ row_pixels b i j n f.old }
 {
-    let mut m = 0;
-    while m < n {
+    for m in 0..n {
         let x = i + m;
-        let d = b.destination;
         let o = operands::at(f, b, x, j);
-        let at = rectangle::pixel_byte(d, x, j);
-        operands::draw(f, d.depth, b.code, at, o);
-        m += 1;
+        let at = rectangle::pixel_byte(b.destination, x, j);
+        operands::draw(f, b.destination.depth, b.code, at, o);
     }
 }
 
@@ -39,9 +38,8 @@ pub fn fill_at(f: &mut [u8], b: Blt, value: u32, a: usize, i: usize, j: usize, n
     requires { (Row (length f.old) b i j n) × (0 < n) × (Changes b i j n (λ m old. value)) × (a ≡ low_byte b.destination i j n) }
     ensures { f.new ≡ row_pixels b i j n f.old }
 {
-    let d = b.destination;
-    let e = a + n * d.depth;
-    writers::fill(&mut f[a..e], d.depth, value);
+    let depth = b.destination.depth;
+    writers::fill(&mut f[a..a + n * depth], depth, value);
 }
 
 // A solid pattern under raster operation F0h.
@@ -54,13 +52,12 @@ pub fn fill(f: &mut [u8], b: Blt, color: u32, i: usize, j: usize, n: usize)
 }
 
 // The row whose lowest byte is a, where every pixel is blended alike.
-pub fn blend_at(f: &mut [u8], b: Blt, v: Blend, a: usize, i: usize, j: usize, n: usize)
+pub fn blend_at(f: &mut [u8], b: Blt, v: Blend<u32>, a: usize, i: usize, j: usize, n: usize)
     requires { (Row (length f.old) b i j n) × (0 < n) × (Changes b i j n (λ m. blended v.flip v.keep)) × (a ≡ low_byte b.destination i j n) }
     ensures { f.new ≡ row_pixels b i j n f.old }
 {
-    let d = b.destination;
-    let e = a + n * d.depth;
-    writers::blend(&mut f[a..e], d.depth, v);
+    let depth = b.destination.depth;
+    writers::blend(&mut f[a..a + n * depth], depth, v);
 }
 
 // A solid pattern under any raster operation.
@@ -73,15 +70,13 @@ pub fn blend(f: &mut [u8], b: Blt, color: u32, value: u32, i: usize, j: usize, n
     blend_at(f, b, v, a, i, j, n);
 }
 
-// The bits of a mono pattern for row j, those of column i first.
+// The bits of a mono pattern for row j, those of column i first: eight, where `operands::mono_bit` has one.
 fn mono_bits(p: MonoPattern, d: Rectangle, i: usize, j: usize) -> u32
     requires { (FitPattern (Mono p)) × (i < 2 ^ 32) × (j < 2 ^ 32) }
     ensures { Turned p.data0 p.data1 (pattern_index d.rows.negative p.row j) (pattern_index d.columns.negative p.column i) result }
 {
-    let columns = d.columns;
-    let rows = d.rows;
-    let row = pixel::pattern_index(rows.negative, p.row, j);
-    let column = pixel::pattern_index(columns.negative, p.column, i);
+    let row = pixel::pattern_index(d.rows.negative, p.row, j);
+    let column = pixel::pattern_index(d.columns.negative, p.column, i);
     pixel::pattern_bits(p.data0, p.data1, row, column)
 }
 
@@ -90,13 +85,13 @@ pub fn mono(f: &mut [u8], b: Blt, p: MonoPattern, value: u32, i: usize, j: usize
     requires { (Row (length f.old) b i j n) × (0 < n) × (b.pattern ≡ Mono p) × (Plain b.code b.source value) }
     ensures { f.new ≡ row_pixels b i j n f.old }
 {
-    let set = pixel::blend_of(b.code, p.color1, value);
-    let clear = pixel::blend_unless(p.transparent, b.code, p.color0, value);
+    let inks = Inks {
+        set: pixel::blend_of(b.code, p.color1, value),
+        clear: pixel::blend_unless(p.transparent, b.code, p.color0, value),
+    };
     let d = b.destination;
-    let columns = d.columns;
-    let low = rectangle::low_column(columns.negative, i, n);
+    let low = rectangle::low_column(d.columns.negative, i, n);
     let bits = mono_bits(p, d, low, j);
     let a = rectangle::pixel_byte(d, low, j);
-    let e = a + n * d.depth;
-    writers::marks(&mut f[a..e], d.depth, bits, set, clear);
+    writers::marks(&mut f[a..a + n * d.depth], d.depth, bits, inks);
 }

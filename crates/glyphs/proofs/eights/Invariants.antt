@@ -1,11 +1,8 @@
-use Prim.Native.Nat.{◌-◌, ◌≤◌, ◌%◌}
+use Prim.Native.Nat.{◌*◌}
 use mathlib.Core.Path.{◌≡◌}
 use Rattle.laws.specs.Pixels.{Bytes}
 use Rattle.laws.specs.Rows.{row_pixels}
 use Rattle.glyphs.proofs.eights.Given as goal
 
-abbrev pub invariant-loop-m : goal.invariant-loop-m
-invariant-loop-m l = (l.m ≤ l.n) × (l.m % 8 ≡ 0) × (Bytes l.f) × (l.f ≡ row_pixels l.b l.i l.j l.m l.initial.f)
-
-abbrev pub decreases-loop-m : goal.decreases-loop-m
-decreases-loop-m l = l.n - l.m
+abbrev pub invariant-loop-k : goal.invariant-loop-k
+invariant-loop-k l = record { bytes : Bytes l.f; drawn : l.f ≡ row_pixels l.fn.b l.i l.j (8 * l.k) l.initial.f }

@@ -20,23 +20,17 @@ overflow_add-x-in-loop-m c = omega (arith, (bits_within c.requires.0 c.loop-m-te
 pub overflow_add-from : goal.overflow_add-from
 overflow_add-from c = omega (arith, (bits_within c.requires.0 c.loop-m-test.true c.loop-m.invariant.1.same c.requires.1.bits).bit_in, c.requires.3, c.requires.0.small, c.loop-m.invariant.1.same)
 
-pub get1-byte-requires : goal.get1-byte-requires
-get1-byte-requires c = omega (arith, (bits_within c.requires.0 c.loop-m-test.true c.loop-m.invariant.1.same c.requires.1.bits).bit_in, c.requires.3)
+pub load-byte-requires : goal.load-byte-requires
+load-byte-requires c = omega (arith, (bits_within c.requires.0 c.loop-m-test.true c.loop-m.invariant.1.same c.requires.1.bits).bit_in, c.requires.3)
 
 pub apply-requires : goal.apply-requires
 apply-requires c = row_in c.requires.0 c.loop-m-test.true c.loop-m.invariant.1.same (row_at c.requires.0 c.loop-m-test.true c.loop-m.invariant.1.same c.requires.2 c.along-at.ensures)
-
-pub overflow_add-m : goal.overflow_add-m
-overflow_add-m c = omega arith
-
-pub loop-m-smaller : goal.loop-m-smaller
-loop-m-smaller c = omega arith
 
 pub loop-m-preserved : goal.loop-m-preserved
 loop-m-preserved c = (
   (λ x. (c.slice_known-in-loop-m-1.given x).fits),
   remain_next (λ x. length_at c.args.b x c.args.j) c.loop-m.invariant.1 c.loop-m-test.true
-      ((rw (c.choose-ink.ensures.0, c.choose-ink.ensures.1, c.get1-byte.ensures) at c.apply.ensures)
+      ((rw (c.choose.ensures.flip, c.choose.ensures.keep, c.from.ensures, c.load-byte.ensures) at c.apply.ensures)
       ∙ bit_drawn c.requires.0 c.requires.1 c.requires.3 c.loop-m-test.true (row_at c.requires.0 c.loop-m-test.true c.loop-m.invariant.1.same c.requires.2 c.along-at.ensures) _ c.loop-m.invariant.0),
 )
 

@@ -6,5 +6,5 @@ pub returns : goal.returns
 unfolding by_choices
 returns c = let op = c.args.op in
     c.choose.ensures
-    ∙ rw (c.choose-low.ensures, c.choose-high.ensures, c.requires.neither_is, c.requires.destination_is, c.requires.source_is, c.requires.both_is)
+    ∙ rw (c.choose-low.ensures, c.choose-high.ensures, op.neither_is, op.destination_is, op.source_is, op.both_is)
     (sym (raster_choices op.code 32 op.pattern c.args.source c.args.destination))

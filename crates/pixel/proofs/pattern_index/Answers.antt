@@ -6,6 +6,6 @@ pub returns-then-negative : goal.returns-then-negative
 unfolding pattern_index
 returns-then-negative c = (rw c.if-negative.true, omega arith)
 
-pub returns : goal.returns
+pub returns-else-negative : goal.returns-else-negative
 unfolding pattern_index
-returns c = (rw c.if-negative.false, omega arith)
+returns-else-negative c = (rw c.if-negative.false, omega arith)

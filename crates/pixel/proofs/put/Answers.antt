@@ -1,15 +1,9 @@
-use Rattle.laws.specs.Pixels.{depth_last}
-use native.Mathlib.Omega.{arith}
+use Rattle.laws.specs.Pixels.{store_low}
+use mathlib.Core.Path.{◌∙◌}
 use Rattle.pixel.proofs.put.Goals as goal
 
-pub returns-then-depth-eq1 : goal.returns-then-depth-eq1
-returns-then-depth-eq1 c = rw c.if-depth-eq1.true c.put1.ensures
+pub returns-in-1 : goal.returns-in-1
+returns-in-1 c = rw c.low.ensures at c.store.ensures ∙ rw c.in-1.is (store_low 1 c.args.f.now c.args.at c.args.value)
 
-pub returns-then-depth-eq2 : goal.returns-then-depth-eq2
-returns-then-depth-eq2 c = rw c.if-depth-eq2.true c.put2.ensures
-
-pub put4-requires : goal.put4-requires
-put4-requires c = omega (arith, depth_last c.requires.0 c.if-depth-eq1.false c.if-depth-eq2.false)
-
-pub returns : goal.returns
-returns c = rw (depth_last c.requires.0 c.if-depth-eq1.false c.if-depth-eq2.false) c.put4.ensures
+pub returns-in-2 : goal.returns-in-2
+returns-in-2 c = rw c.low-in-2.ensures at c.store-in-2.ensures ∙ rw c.in-2.is (store_low 2 c.args.f.now c.args.at c.args.value)

@@ -4,11 +4,8 @@ use Rattle.laws.specs.Lows.{destination_span, bytes_in}
 use Rattle.laws.specs.Changes.{changes_part}
 use Rattle.rows.proofs.fill_at.Goals as goal
 
-pub overflow_mul-e : goal.overflow_mul-e
-overflow_mul-e c = omega (arith, bytes_in (destination_span c.requires.0 c.requires.1) c.requires.3, c.requires.0.small)
-
-pub overflow_add-e : goal.overflow_add-e
-overflow_add-e c = omega (arith, bytes_in (destination_span c.requires.0 c.requires.1) c.requires.3, c.requires.0.small)
+pub overflow_add-a : goal.overflow_add-a
+overflow_add-a c = omega (arith, bytes_in (destination_span c.requires.0 c.requires.1) c.requires.3, c.requires.0.small)
 
 pub slice_bounds-fill-end : goal.slice_bounds-fill-end
 slice_bounds-fill-end c = bytes_in (destination_span c.requires.0 c.requires.1) c.requires.3

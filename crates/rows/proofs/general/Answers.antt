@@ -1,11 +1,8 @@
 use mathlib.Core.Path.{refl, ◌∙◌}
 use native.Mathlib.Omega.{arith}
-use Rattle.laws.specs.Order.{remain_all, remain_next, remain_none}
+use Rattle.laws.specs.Order.{remain_next, remain_none}
 use Rattle.laws.specs.Rows.{length_at, operands_drawn, row_pixel, row_reached, row_in}
 use Rattle.rows.proofs.general.Goals as goal
-
-pub loop-m-init : goal.loop-m-init
-loop-m-init c = remain_all _
 
 pub overflow_add-x : goal.overflow_add-x
 overflow_add-x c = omega (arith, c.requires.columns, c.requires.fit.destination_fit.ranged.wide_most)
@@ -19,17 +16,8 @@ pixel_byte-at-requires c = row_reached c.requires (omega arith)
 pub draw-requires : goal.draw-requires
 draw-requires c = row_in c.requires c.loop-m-test.true c.loop-m.invariant.same c.pixel_byte-at.ensures
 
-pub overflow_add-m : goal.overflow_add-m
-overflow_add-m c = omega arith
-
-pub loop-m-smaller : goal.loop-m-smaller
-loop-m-smaller c = omega arith
-
 pub loop-m-preserved : goal.loop-m-preserved
 loop-m-preserved c = remain_next (λ x. length_at c.args.b x c.args.j) c.loop-m.invariant c.loop-m-test.true (c.draw.ensures ∙ operands_drawn c.args.b _ _ _ refl c.pixel_byte-at.ensures c.at-o.ensures)
-
-pub shape_of-f : goal.shape_of-f
-shape_of-f c = c.loop-m.invariant.same
 
 pub returns : goal.returns
 returns c = remain_none c.loop-m.invariant (omega arith)

@@ -11,11 +11,8 @@ mono_bits-bits-requires c = (rw c.requires.2 at c.requires.0.fit.pattern_fit, c.
 pub pixel_byte-a-requires : goal.pixel_byte-a-requires
 pixel_byte-a-requires c = rw c.low_column-low.ensures.0 (low_reached (destination_span c.requires.0 c.requires.1))
 
-pub overflow_mul-e : goal.overflow_mul-e
-overflow_mul-e c = omega (arith, bytes_in (destination_span c.requires.0 c.requires.1) {a = c.pixel_byte-a.result} (rw (← c.low_column-low.ensures.0) c.pixel_byte-a.ensures), c.requires.0.small)
-
-pub overflow_add-e : goal.overflow_add-e
-overflow_add-e c = omega (arith, bytes_in (destination_span c.requires.0 c.requires.1) {a = c.pixel_byte-a.result} (rw (← c.low_column-low.ensures.0) c.pixel_byte-a.ensures), c.requires.0.small)
+pub overflow_add-a : goal.overflow_add-a
+overflow_add-a c = omega (arith, bytes_in (destination_span c.requires.0 c.requires.1) {a = c.pixel_byte-a.result} (rw (← c.low_column-low.ensures.0) c.pixel_byte-a.ensures), c.requires.0.small)
 
 pub slice_bounds-marks-end : goal.slice_bounds-marks-end
 slice_bounds-marks-end c = bytes_in (destination_span c.requires.0 c.requires.1) (rw (← c.low_column-low.ensures.0) c.pixel_byte-a.ensures)
@@ -25,7 +22,7 @@ marks-requires c = c.requires.0.fit.destination_fit.ranged.deep
 
 pub returns : goal.returns
 returns c = changes_part c.requires.0 c.requires.1
-    (mono_changes c.args.b c.requires.3 c.requires.2 _ _ _ c.requires.0.fit.destination_fit.ranged.deep c.mono_bits-bits.result c.blend_of-set.ensures.0
-    c.blend_of-set.ensures.1 c.blend_unless-clear.ensures.0 c.blend_unless-clear.ensures.1
+    (mono_changes c.args.b c.requires.3 c.requires.2 _ _ _ c.requires.0.fit.destination_fit.ranged.deep c.mono_bits-bits.result c.blend_of.ensures.0
+    c.blend_of.ensures.1 c.blend_unless.ensures.0 c.blend_unless.ensures.1
     (rw (← c.low_column-low.ensures.0) c.mono_bits-bits.ensures))
     (rw (← c.low_column-low.ensures.0) c.pixel_byte-a.ensures) _ refl (λ i. (c.slice_known-1.given i).fits) c.marks.ensures

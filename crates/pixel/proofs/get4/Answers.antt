@@ -1,7 +1,0 @@
-use Rattle.model.specs.Pixel.{read_pixel}
-use native.Mathlib.Omega.{arith}
-use Rattle.pixel.proofs.get4.Goals as goal
-
-pub returns : goal.returns
-unfolding read_pixel
-returns c = omega arith

@@ -1,0 +1,7 @@
+use Rattle.model.specs.Pixel.{read_pixel}
+use native.Mathlib.Omega.{arith}
+use Rattle.pixel.proofs.width.U8Pixel.load.Goals as goal
+
+pub returns : goal.returns
+unfolding read_pixel
+returns c = omega arith
