@@ -11,37 +11,30 @@ ghost use Rattle.laws.specs.Lows.{low_place};
 ghost use Rattle.laws.specs.Changes.{changed_row};
 ghost use Rattle.laws.specs.Words.{mix_rule, repeated};
 ghost use Rattle.laws.specs.Mixes.{Ready};
-ghost use Rattle.pixel.specs.Prepared.{Prepared};
 
 use model::{Blt, Rectangle};
-use pixel::Operation;
+use pixel::{Operation, Pixel};
 
 // ---- bytes
 
 // Combines each word of a row with the one at the same place of t.
 fn words(row: &mut [u8], t: &[u8], op: Operation)
-    requires { (Prepared op) × (length row.old ≤ length t.now) }
+    requires { length row.old ≤ length t.now }
     ensures { row.new ≡ changed_row 4 (mix_rule 4 op.code op.pattern t.now 0) (length row.old / 4) 0 row.old }
 {
-    let n = row.len() / 4;
-    let mut i = 0;
-    while i < n {
-        let at = i * 4;
-        let source = pixel::get4(t, at);
-        pixel::paint(row, op, 4, at, source);
-        i += 1;
+    for i in 0..row.len() / 4 {
+        pixel::paint(row, op, 4, i * 4, u32::load(t, i * 4));
     }
 }
 
 // Combines the piece from byte `to` up with the one from `from` up: all of this is read before the first byte is written.
 fn piece(f: &mut [u8], op: Operation, from: usize, to: usize)
-    requires { (Prepared op) × (from + 16 ≤ length f.old) × (to + 16 ≤ length f.old) }
+    requires { (from + 16 ≤ length f.old) × (to + 16 ≤ length f.old) }
     ensures { f.new ≡ changed_row 4 (mix_rule 4 op.code op.pattern f.old from) 4 to f.old }
 {
-    let e = to + 16;
     let mut room = [0u8; 16];
     moves::lay(f, from, &mut room, 0, 16);
-    words(&mut f[to..e], &room, op);
+    words(&mut f[to..to + 16], &room, op);
 }
 
 // ---- pieces of a row
@@ -49,88 +42,75 @@ fn piece(f: &mut [u8], op: Operation, from: usize, to: usize)
 // The pixels of a piece.
 fn piece_of(depth: usize) -> usize
     requires { Depth depth }
-    ensures { (0 < result) × (result * depth ≡ 16) }
+    ensures some { 0 < result }
+    ensures whole { result * depth ≡ 16 }
 {
-    if depth == 1 {
-        return 16;
+    match depth {
+        1 => 16,
+        2 => 8,
+        _ => 4,
     }
-    if depth == 2 {
-        return 8;
-    }
-    4
 }
 
 // A colour, as often as it goes into a word.
 fn repeat(depth: usize, color: u32) -> u32
     ensures { result ≡ repeated depth color }
 {
-    if depth == 1 {
-        return color % 256 * 16843009;
+    match depth {
+        1 => color % 256 * 16843009,
+        2 => color % 65536 * 65537,
+        _ => color,
     }
-    if depth == 2 {
-        return color % 65536 * 65537;
-    }
-    color
 }
 
 // How far from the lowest byte of n pixels that of c of them lies, from number m on.
 fn offset(negative: bool, depth: usize, n: usize, m: usize, c: usize) -> usize
-    requires { (m + c ≤ n) × (n * depth < 2 ^ 32) }
+    requires within { m + c ≤ n }
+    requires near { n * depth < 2 ^ 32 }
     ensures { result ≡ low_place negative n m c * depth }
 {
     if negative {
-        return (n - m - c) * depth;
+        (n - m - c) * depth
+    } else {
+        m * depth
     }
-    m * depth
 }
 
 // Combines the first of n pixels of row j, from column i, as many as make whole pieces, and says how many. None where a piece would
 // meet a byte that it has overwritten.
 fn pieces(f: &mut [u8], b: Blt, op: Operation, s: Rectangle, i: usize, j: usize, n: usize) -> usize
-    requires { (Row (length f.old) b i j n) × (0 < n) × (Prepared op) × (Ready b s op.code op.pattern) }
+    requires { (Row (length f.old) b i j n) × (0 < n) × (Ready b s op.code op.pattern) }
     ensures { (result ≤ n) × (f.new ≡ row_pixels b i j result f.old) }
 {
-    let first = b.destination;
-    let c = piece_of(first.depth);
-    if n < c {
-        return 0;
-    }
+    let d = b.destination;
+    let c = piece_of(d.depth);
     let from = rectangle::low_byte(s, i, j, n);
-    let to = rectangle::low_byte(first, i, j, n);
-    let across = first.columns;
-    let clear = moves::is_clear(across.negative, from, to, 16);
-    if !clear {
+    let to = rectangle::low_byte(d, i, j, n);
+    if !moves::is_clear(d.columns.negative, from, to, 16) {
         return 0;
     }
-    let mut m = 0;
-    while c <= n - m {
-        let d = b.destination;
-        let columns = d.columns;
-        let x = offset(columns.negative, d.depth, n, m, c);
+    let count = n * d.depth / 16;
+    for k in 0..count {
+        let x = offset(d.columns.negative, d.depth, n, k * c, c);
         piece(f, op, from + x, to + x);
-        m += c;
     }
-    m
+    count * c
 }
 
 // ---- rows
 
 // Combines n pixels one after the other: each finds its source as it then stands.
 fn in_order(f: &mut [u8], b: Blt, op: Operation, s: Rectangle, i: usize, j: usize, n: usize)
-    requires { (Row (length f.old) b i j n) × (0 < n) × (Prepared op) × (Ready b s op.code op.pattern) }
+    requires { (Row (length f.old) b i j n) × (0 < n) × (Ready b s op.code op.pattern) }
     ensures { f.new ≡ row_pixels b i j n f.old }
 {
-    let first = b.destination;
-    let to = rectangle::pixel_byte(first, i, j);
+    let d = b.destination;
+    let to = rectangle::pixel_byte(d, i, j);
     let from = rectangle::pixel_byte(s, i, j);
-    let mut m = 0;
-    while m < n {
-        let d = b.destination;
-        let columns = d.columns;
-        let source = pixel::get(d.depth, f, rectangle::along(columns, from, m));
-        let at = rectangle::along(columns, to, m);
+    for m in 0..n {
+        let source = pixel::get(d.depth, f, rectangle::along(d.columns, from, m));
+        let at = rectangle::along(d.columns, to, m);
         pixel::paint(f, op, d.depth, at, source);
-        m += 1;
     }
 }
 
@@ -139,11 +119,9 @@ pub fn combine(f: &mut [u8], b: Blt, color: u32, s: Rectangle, i: usize, j: usiz
     requires { (Row (length f.old) b i j n) × (0 < n) × (b.pattern ≡ Solid color) × (b.source ≡ Frame s) }
     ensures { f.new ≡ row_pixels b i j n f.old }
 {
-    let d = b.destination;
-    let op = pixel::prepare(b.code, repeat(d.depth, color));
+    let op = pixel::prepare(b.code, repeat(b.destination.depth, color));
     let m = pieces(f, b, op, s, i, j, n);
-    if n <= m {
-        return;
+    if m < n {
+        in_order(f, b, op, s, i + m, j, n - m);
     }
-    in_order(f, b, op, s, i + m, j, n - m);
 }

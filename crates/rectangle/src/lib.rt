@@ -12,46 +12,37 @@ use model::{Axis, Extent, Rectangle};
 
 // What n bytes along an axis add to a position: none where it goes back.
 fn further(negative: bool, n: usize) -> usize
-    ensures { (result ≡ added negative n) × (result ≤ n) }
+    ensures value { result ≡ added negative n }
+    ensures most { result ≤ n }
 {
-    if negative {
-        return 0;
-    }
-    n
+    if negative { 0 } else { n }
 }
 
 // What they take away.
 fn back(negative: bool, n: usize) -> usize
-    ensures { (result ≡ taken negative n) × (result ≤ n) }
+    ensures value { result ≡ taken negative n }
+    ensures most { result ≤ n }
 {
-    if negative {
-        return n;
-    }
-    0
+    if negative { n } else { 0 }
 }
 
 // The lowest and the highest byte of a rectangle in a frame memory of so many bytes, or that some byte lies outside: by the
 // extremes of the two axes. From the byte that the offset names a row reaches `across` bytes further or back.
-pub fn extent(framelength: usize, r: Rectangle) -> Extent
+pub fn extent(framelength: usize, r: Rectangle) -> Option<Extent>
     requires { Ranged r }
     ensures { result ≡ rectangle_extent framelength r }
 {
-    let columns = r.columns;
-    let rows = r.rows;
-    let across = (columns.count - 1) * columns.step + (r.depth - 1);
-    let along = (rows.count - 1) * rows.step;
-    let fall = back(columns.negative, across) + back(rows.negative, along);
-    let offset = r.offset;
-    if offset < fall {
-        return Extent::Outside;
-    }
-    let high = offset + (further(columns.negative, across) + further(rows.negative, along));
-    if framelength <= high {
-        return Extent::Outside;
-    }
-    Extent::Inside {
-        low: offset - fall,
-        high,
+    let across = (r.columns.count - 1) * r.columns.step + (r.depth - 1);
+    let along = (r.rows.count - 1) * r.rows.step;
+    let fall = back(r.columns.negative, across) + back(r.rows.negative, along);
+    let rise = further(r.columns.negative, across) + further(r.rows.negative, along);
+    if r.offset < fall || framelength <= r.offset + rise {
+        None
+    } else {
+        Some(Extent {
+            low: r.offset - fall,
+            high: r.offset + rise,
+        })
     }
 }
 
@@ -60,17 +51,15 @@ pub fn pixel_byte(r: Rectangle, i: usize, j: usize) -> usize
     requires { Reached r i j }
     ensures { result ≡ pixel_byte r i j }
 {
-    let columns = r.columns;
-    let rows = r.rows;
-    let across = i * columns.step;
-    let along = j * rows.step;
-    let plus = further(rows.negative, along);
-    let minus = back(rows.negative, along);
-    let negative = columns.negative;
-    if negative {
-        return r.offset + plus - (across + minus + (r.depth - 1));
+    let across = i * r.columns.step;
+    let along = j * r.rows.step;
+    let plus = further(r.rows.negative, along);
+    let minus = back(r.rows.negative, along);
+    if r.columns.negative {
+        r.offset + plus - (across + minus + (r.depth - 1))
+    } else {
+        r.offset + (across + plus) - minus
     }
-    r.offset + (across + plus) - minus
 }
 
 // The byte m steps along an axis from byte `start`.
@@ -87,14 +76,11 @@ pub fn next(a: Axis, at: usize) -> usize
     requires { (at < 2 ^ 32) × (a.step < 2 ^ 32) }
     ensures { Follows a at result }
 {
-    let negative = a.negative;
-    if negative {
-        if at < a.step {
-            return 0;
-        }
-        return at - a.step;
+    if a.negative {
+        at.saturating_sub(a.step)
+    } else {
+        at + a.step
     }
-    at + a.step
 }
 
 // The column of pixel k, most often 0.
@@ -102,10 +88,7 @@ pub fn column_of(k: usize, width: usize) -> usize
     requires { 0 < width }
     ensures { result ≡ k % width }
 {
-    if k == 0 {
-        return 0;
-    }
-    k % width
+    if k == 0 { 0 } else { k % width }
 }
 
 // Its row.
@@ -113,10 +96,7 @@ pub fn row_of(k: usize, width: usize) -> usize
     requires { 0 < width }
     ensures { result ≡ k / width }
 {
-    if k == 0 {
-        return 0;
-    }
-    k / width
+    if k == 0 { 0 } else { k / width }
 }
 
 // The lowest of n columns from column i.
@@ -124,10 +104,7 @@ pub fn low_column(negative: bool, i: usize, n: usize) -> usize
     requires { (0 < n) × (i + n < 2 ^ 32) }
     ensures { (result ≡ low_column negative i n) × (result < 2 ^ 32) }
 {
-    if negative {
-        return i + (n - 1);
-    }
-    i
+    if negative { i + (n - 1) } else { i }
 }
 
 // The lowest byte of n pixels of row j, from column i.
@@ -135,7 +112,5 @@ pub fn low_byte(r: Rectangle, i: usize, j: usize, n: usize) -> usize
     requires { (0 < n) × (i + n < 2 ^ 32) × (Reached r (low_column r.columns.negative i n) j) }
     ensures { result ≡ low_byte r i j n }
 {
-    let columns = r.columns;
-    let low = low_column(columns.negative, i, n);
-    pixel_byte(r, low, j)
+    pixel_byte(r, low_column(r.columns.negative, i, n), j)
 }

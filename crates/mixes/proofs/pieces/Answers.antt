@@ -1,69 +1,88 @@
-use mathlib.Core.Path.{◌≡◌, refl, sym, ap, ◌∙◌}
-use native.Mathlib.Omega.{arith}
-use lib.ListN.{length}
+use Rattle.std.proofs.Common.{ℕ, ◌≡◌, ◌+◌, ◌*◌, ◌/◌, ◌≤◌, ◌<◌, length, rules, sym, ap, ◌∙◌, ⊎_elim, arith, mul-le-mul_right, div-mul-le_self}
+use Rattle.model.specs.Formats.{Depth}
 use Rattle.model.specs.BltPixel.{draw_at}
+use Rattle.laws.specs.Numbers.{less_or_not}
+use Rattle.laws.specs.Pixels.{depth_least}
 use Rattle.laws.specs.Order.{order_zero, order_add}
-use Rattle.laws.specs.Rows.{length_row}
-use Rattle.laws.specs.Lows.{destination_span, source_span, low_asked}
-use Rattle.laws.specs.Moves.{row_most}
-use Rattle.laws.specs.Mixes.{piece_in, piece_drawn}
+use Rattle.laws.specs.Rows.{Row, length_row}
+use Rattle.laws.specs.Lows.{low_byte, low_place, destination_span, source_span, low_asked}
+use Rattle.laws.specs.Moves.{copy_bytes}
+use Rattle.laws.specs.Mixes.{Ready, piece_in, piece_drawn}
+use Rattle.model.specs.declared.Blt.{Blt}
+use Rattle.model.specs.declared.Rectangle.{Rectangle}
 use Rattle.mixes.proofs.pieces.Goals as goal
 
-pub piece_of-c-requires : goal.piece_of-c-requires
-piece_of-c-requires c = c.requires.0.fit.destination_fit.ranged.deep
+-- as many pieces as the bytes of n pixels hold have no more pixels
+pieces_fit : {depth : ℕ} → Depth depth → (p c n : ℕ) → c * depth ≡ 16 → p * 16 ≤ n * depth → p * c ≤ n
+pieces_fit {depth} deep p c n whole l =
+    ⊎_elim
+    (λ h.
+    let e : p * (c * depth) ≡ p * 16 = ap (λ (x : ℕ). p * x) whole in
+    absurd (omega (arith, e, mul-le-mul_right depth h, depth_least deep)))
+    (λ h. h)
+    (less_or_not n (p * c))
 
-pub returns-then-n-c : goal.returns-then-n-c
-returns-then-n-c c = (omega arith, sym (order_zero _ _ _))
+next_fits : {depth : ℕ} → Depth depth → (k c n : ℕ) → c * depth ≡ 16 → k < n * depth / 16 → k * c + c ≤ n
+next_fits {depth} deep k c n whole l = omega (arith, pieces_fit deep (k + 1) c n whole (omega arith))
+
+-- where piece k of them lies
+piece_there : {size : ℕ} {b : Blt} {i j n : ℕ} (r : Row size b i j n) → 0 < n → {s : Rectangle} {code pattern : ℕ} → Ready b s code pattern
+    → {from to : ℕ} → from ≡ low_byte s i j n → to ≡ low_byte b.destination i j n → (k c : ℕ) → 0 < c → c * b.destination.depth ≡ 16
+    → k < n * b.destination.depth / 16 → {x : ℕ} → x ≡ low_place b.destination.columns.negative n (k * c) c * b.destination.depth
+    → (from + x + 16 ≤ size) × (to + x + 16 ≤ size)
+piece_there {n = n} r some y f t k c z whole l =
+    piece_in r some y f t (k * c) c z (next_fits r.fit.destination_fit.ranged.deep k c n whole l) whole
 
 pub low_byte-from-requires : goal.low_byte-from-requires
-low_byte-from-requires c = low_asked (source_span c.requires.0 c.requires.1 c.requires.3.source)
+low_byte-from-requires c = low_asked (source_span c.requires.0 c.requires.1 c.requires.2.source)
 
 pub low_byte-to-requires : goal.low_byte-to-requires
 low_byte-to-requires c = low_asked (destination_span c.requires.0 c.requires.1)
 
-pub is_clear-clear-requires : goal.is_clear-clear-requires
-is_clear-clear-requires c = omega (arith, piece_in c.requires.0 c.requires.1 c.requires.3 c.low_byte-from.ensures c.low_byte-to.ensures 0 c.piece_of-c.result c.piece_of-c.ensures.0 (omega (arith, c.if-n-c.false)) c.piece_of-c.ensures.1 refl, c.requires.0.small)
+pub is_clear-requires : goal.is_clear-requires
+is_clear-requires c =
+    omega (arith, copy_bytes c.requires.0 c.requires.1 c.requires.2.source c.low_byte-from.ensures c.low_byte-to.ensures, c.requires.0.small)
 
-pub returns-then-not-clear : goal.returns-then-not-clear
-returns-then-not-clear c = (omega arith, sym (order_zero _ _ _))
+pub returns-then-not-is_clear : goal.returns-then-not-is_clear
+returns-then-not-is_clear c = (omega arith, sym (order_zero _ _ _))
 
-pub loop-m-init : goal.loop-m-init
-loop-m-init c = (omega arith, (λ x. (c.slice_known-1.given x).fits), sym (order_zero _ _ _))
+pub loop-k-init : goal.loop-k-init
+loop-k-init c = let z : 0 * c.piece_of-c.result ≡ 0 = omega arith in (search rules, rw z (sym (order_zero _ _ _)))
 
-pub overflow_sub-n : goal.overflow_sub-n
-overflow_sub-n c = omega (arith, c.loop-m.invariant.0)
+pub overflow_mul-k : goal.overflow_mul-k
+overflow_mul-k c =
+    omega (arith, next_fits c.requires.0.fit.destination_fit.ranged.deep _ _ _ c.piece_of-c.ensures.whole c.loop-k-test.true, c.ranges.n.fits)
 
-pub offset-x-requires : goal.offset-x-requires
-offset-x-requires c = (omega (arith, c.loop-m-test.true, c.loop-m.invariant.0), omega (arith, row_most c.requires.0))
+pub offset-x-requires-clause-within : goal.offset-x-requires-clause-within
+offset-x-requires-clause-within c = next_fits c.requires.0.fit.destination_fit.ranged.deep _ _ _ c.piece_of-c.ensures.whole c.loop-k-test.true
 
 pub overflow_add-from : goal.overflow_add-from
-overflow_add-from c = omega (arith, piece_in c.requires.0 c.requires.1 c.requires.3 c.low_byte-from.ensures c.low_byte-to.ensures c.loop-m.m c.piece_of-c.result c.piece_of-c.ensures.0 (omega (arith, c.loop-m-test.true, c.loop-m.invariant.0)) c.piece_of-c.ensures.1 c.offset-x.ensures, c.requires.0.small)
+overflow_add-from c =
+    omega (arith, piece_there c.requires.0 c.requires.1 c.requires.2 c.low_byte-from.ensures c.low_byte-to.ensures c.loop-k.k c.piece_of-c.result c.piece_of-c.ensures.some c.piece_of-c.ensures.whole c.loop-k-test.true c.offset-x.ensures, c.requires.0.small)
 
 pub overflow_add-to : goal.overflow_add-to
-overflow_add-to c = omega (arith, piece_in c.requires.0 c.requires.1 c.requires.3 c.low_byte-from.ensures c.low_byte-to.ensures c.loop-m.m c.piece_of-c.result c.piece_of-c.ensures.0 (omega (arith, c.loop-m-test.true, c.loop-m.invariant.0)) c.piece_of-c.ensures.1 c.offset-x.ensures, c.requires.0.small)
+overflow_add-to c =
+    omega (arith, piece_there c.requires.0 c.requires.1 c.requires.2 c.low_byte-from.ensures c.low_byte-to.ensures c.loop-k.k c.piece_of-c.result c.piece_of-c.ensures.some c.piece_of-c.ensures.whole c.loop-k-test.true c.offset-x.ensures, c.requires.0.small)
 
 pub piece-requires : goal.piece-requires
-piece-requires c = let w = piece_in c.requires.0 c.requires.1 c.requires.3 c.low_byte-from.ensures c.low_byte-to.ensures c.loop-m.m c.piece_of-c.result c.piece_of-c.ensures.0 (omega (arith, c.loop-m-test.true, c.loop-m.invariant.0)) c.piece_of-c.ensures.1 c.offset-x.ensures in
-    let l : length c.loop-m.f ≡ length c.args.f.now = ap length c.loop-m.invariant.2 ∙ length_row _ _ _ _ _ in
-    (c.requires.2, omega arith, omega arith)
+piece-requires c =
+    let w = piece_there c.requires.0 c.requires.1 c.requires.2 c.low_byte-from.ensures c.low_byte-to.ensures c.loop-k.k c.piece_of-c.result c.piece_of-c.ensures.some c.piece_of-c.ensures.whole c.loop-k-test.true c.offset-x.ensures in
+    let l : length c.loop-k.f ≡ length c.args.f.now = ap length c.loop-k.invariant.1 ∙ length_row _ _ _ _ _ in
+    (omega arith, omega arith)
 
-pub overflow_add-m : goal.overflow_add-m
-overflow_add-m c = omega (arith, c.loop-m-test.true, c.loop-m.invariant.0)
-
-pub loop-m-smaller : goal.loop-m-smaller
-loop-m-smaller c = omega (arith, c.loop-m-test.true, c.loop-m.invariant.0, c.piece_of-c.ensures.0)
-
-pub loop-m-preserved : goal.loop-m-preserved
-loop-m-preserved c = (
-  omega (arith, c.loop-m-test.true, c.loop-m.invariant.0),
-  (λ x. (c.slice_known-in-loop-m-1.given x).fits),
-  c.piece.ensures
-      ∙ piece_drawn c.requires.0 c.requires.1 c.requires.3 c.low_byte-from.ensures c.low_byte-to.ensures c.loop-m.m c.piece_of-c.result c.piece_of-c.ensures.0 (omega (arith, c.loop-m-test.true, c.loop-m.invariant.0)) c.piece_of-c.ensures.1 c.offset-x.ensures (c.is_clear-clear.ensures c.if-not-clear.false) _ c.loop-m.invariant.1
-      ∙ rw c.loop-m.invariant.2 (order_add (λ x. draw_at c.args.b x c.args.j) c.loop-m.m c.args.i c.piece_of-c.result c.args.f.now),
-)
-
-pub shape_of-f : goal.shape_of-f
-shape_of-f c = ap length c.loop-m.invariant.2 ∙ length_row _ _ _ _ _
+pub loop-k-preserved : goal.loop-k-preserved
+loop-k-preserved c =
+    let e : (c.loop-k.k + 1) * c.piece_of-c.result ≡ c.loop-k.k * c.piece_of-c.result + c.piece_of-c.result = omega arith in (
+      search rules,
+      rw e
+          (c.piece.ensures
+          ∙ piece_drawn c.requires.0 c.requires.1 c.requires.2 c.low_byte-from.ensures c.low_byte-to.ensures (c.loop-k.k * c.piece_of-c.result) c.piece_of-c.result c.piece_of-c.ensures.some (next_fits c.requires.0.fit.destination_fit.ranged.deep _ _ _ c.piece_of-c.ensures.whole c.loop-k-test.true) c.piece_of-c.ensures.whole c.offset-x.ensures (c.is_clear.ensures c.if-not-is_clear.false) _ c.loop-k.invariant.0
+          ∙ rw c.loop-k.invariant.1 (order_add (λ x. draw_at c.args.b x c.args.j) (c.loop-k.k * c.piece_of-c.result) c.args.i c.piece_of-c.result c.args.f.now)),
+    )
 
 pub returns : goal.returns
-returns c = (c.loop-m.invariant.0, c.loop-m.invariant.2)
+returns c =
+    let e : c.loop-k.k ≡ c.args.n * c.args.b.destination.depth / 16 = omega (arith, c.loop-k.auto.k-end, c.loop-k-test.false) in (
+      pieces_fit c.requires.0.fit.destination_fit.ranged.deep _ _ _ c.piece_of-c.ensures.whole (div-mul-le_self _ 16),
+      rw e at c.loop-k.invariant.1,
+    )

@@ -1,11 +1,8 @@
-use Prim.Native.Nat.{◌-◌, ◌≤◌}
+use Prim.Native.Nat.{◌*◌}
 use mathlib.Core.Path.{◌≡◌}
 use Rattle.laws.specs.Pixels.{Bytes}
 use Rattle.laws.specs.Rows.{row_pixels}
 use Rattle.mixes.proofs.pieces.Given as goal
 
-abbrev pub invariant-loop-m : goal.invariant-loop-m
-invariant-loop-m l = (l.m ≤ l.n) × (Bytes l.f) × (l.f ≡ row_pixels l.b l.i l.j l.m l.initial.f)
-
-abbrev pub decreases-loop-m : goal.decreases-loop-m
-decreases-loop-m l = l.n - l.m
+abbrev pub invariant-loop-k : goal.invariant-loop-k
+invariant-loop-k l = (Bytes l.f) × (l.f ≡ row_pixels l.fn.b l.i l.j (l.k * l.c) l.initial.f)

@@ -12,8 +12,8 @@ low_byte-to-requires c = low_asked (destination_span c.requires.0 c.requires.1)
 pub bytes_of-requires : goal.bytes_of-requires
 bytes_of-requires c = omega (arith, row_most c.requires.0)
 
-pub is_clear-clear-requires : goal.is_clear-clear-requires
-is_clear-clear-requires c = omega (arith, copy_bytes c.requires.0 c.requires.1 c.requires.2 c.low_byte-from.ensures c.low_byte-to.ensures, c.requires.0.small)
+pub is_clear-requires : goal.is_clear-requires
+is_clear-requires c = omega (arith, copy_bytes c.requires.0 c.requires.1 c.requires.2 c.low_byte-from.ensures c.low_byte-to.ensures, c.requires.0.small)
 
 pub copy_at-requires : goal.copy_at-requires
 copy_at-requires c = (
@@ -24,5 +24,5 @@ copy_at-requires c = (
   c.requires.4,
   c.low_byte-from.ensures,
   c.low_byte-to.ensures,
-  rw (← c.bytes_of.ensures) (c.is_clear-clear.ensures c.if-clear.true),
+  rw (← c.bytes_of.ensures) (c.is_clear.ensures c.if-is_clear.true),
 )

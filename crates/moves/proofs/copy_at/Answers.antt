@@ -7,7 +7,9 @@ pub bytes_of-requires : goal.bytes_of-requires
 bytes_of-requires c = omega (arith, row_most c.requires.0)
 
 pub move_bytes-requires : goal.move_bytes-requires
-move_bytes-requires c = omega (arith, row_most c.requires.0, copy_bytes c.requires.0 c.requires.1 c.requires.2 c.requires.5 c.requires.6)
+move_bytes-requires c =
+    let w = copy_bytes c.requires.0 c.requires.1 c.requires.2 c.requires.5 c.requires.6 in
+    record { few = omega (arith, row_most c.requires.0); source_in = omega arith; row_in = omega arith }
 
 pub returns : goal.returns
 returns c = c.move_bytes.ensures

@@ -1,35 +1,24 @@
-use mathlib.Core.Path.{sym}
-use native.Mathlib.Omega.{arith}
-use Rattle.laws.specs.Extremes.{small_last, extent_below, extent_above, extent_in}
+use Rattle.std.proofs.Common.{arith, sym, ◌∙◌, leb-true, leb-false, ltb-false}
+use Rattle.laws.specs.Extremes.{extent_below, extent_above, extent_in}
 use Rattle.rectangle.proofs.extent.Goals as goal
+use Rattle.rectangle.proofs.extent.Goals.{then-r-fall, else-r-fall}
 
-pub overflow_mul-across : goal.overflow_mul-across
-overflow_mul-across c = omega (arith, small_last c.requires)
+pub returns-then-framelength-r : goal.returns-then-framelength-r
+returns-then-framelength-r c =
+    elim c.if-r-fall.branch [
+      | then-r-fall w ↦ sym (extent_below _ c.requires _ (omega (arith, w.if-r-fall.true, c.back.ensures.value, c.back-2.ensures.value)))
+      | else-r-fall w ↦
+          sym (extent_above _ c.requires _
+          (omega (arith, leb-true _ _ (sym w.value-is ∙ c.if-framelength-r.true), c.further.ensures.value, c.further-2.ensures.value)))
+    ]
 
-pub overflow_sub-across-2 : goal.overflow_sub-across-2
-overflow_sub-across-2 c = omega (arith, small_last c.requires)
-
-pub overflow_add-across : goal.overflow_add-across
-overflow_add-across c = omega (arith, small_last c.requires)
-
-pub overflow_mul-along : goal.overflow_mul-along
-overflow_mul-along c = omega (arith, small_last c.requires)
-
-pub overflow_add-fall : goal.overflow_add-fall
-overflow_add-fall c = omega (arith, small_last c.requires, c.back.ensures.1, c.back-2.ensures.1)
-
-pub returns-then-offset-fall : goal.returns-then-offset-fall
-returns-then-offset-fall c = sym (extent_below _ c.requires _ (omega (arith, c.back.ensures.0, c.back-2.ensures.0)))
-
-pub overflow_add-high : goal.overflow_add-high
-overflow_add-high c = omega (arith, small_last c.requires, c.further.ensures.1, c.further-2.ensures.1)
-
-pub overflow_add-high-2 : goal.overflow_add-high-2
-overflow_add-high-2 c = omega (arith, small_last c.requires, c.further.ensures.1, c.further-2.ensures.1)
-
-pub returns-then-framelength-high : goal.returns-then-framelength-high
-returns-then-framelength-high c = sym (extent_above _ c.requires _ (omega (arith, c.further.ensures.0, c.further-2.ensures.0)))
-
-pub returns : goal.returns
-returns c = rw (c.back.ensures.0, c.back-2.ensures.0, c.further.ensures.0, c.further-2.ensures.0)
-    (sym (extent_in _ c.requires _ (omega (arith, c.back.ensures.0, c.back-2.ensures.0)) (omega (arith, c.further.ensures.0, c.further-2.ensures.0))))
+pub returns-else-framelength-r : goal.returns-else-framelength-r
+returns-else-framelength-r c =
+    rw (c.back.ensures.value, c.back-2.ensures.value, c.further.ensures.value, c.further-2.ensures.value)
+    (elim c.if-r-fall.branch [
+      | then-r-fall w ↦ absurd (omega (arith, w.if-r-fall.true, ltb-false _ _ (sym w.value-is ∙ c.if-framelength-r.false)))
+      | else-r-fall w ↦
+          sym (extent_in _ c.requires _
+          (omega (arith, w.if-r-fall.false, c.back.ensures.value, c.back-2.ensures.value))
+          (omega (arith, leb-false _ _ (sym w.value-is ∙ c.if-framelength-r.false), c.further.ensures.value, c.further-2.ensures.value)))
+    ])

@@ -1,4 +1,4 @@
-use Prim.Native.Nat.{ℕ, ◌-◌, ◌≤◌}
+use Prim.Native.Nat.{ℕ}
 use mathlib.Core.Path.{◌≡◌}
 use mathlib.Core.List.{List}
 use lib.ListN.{length, take}
@@ -10,7 +10,4 @@ abbrev pub row_colors : (depth : ℕ) → List ℕ → ℕ → List ℕ
 row_colors depth table row = up_to 8 (tile_color depth table row)
 
 abbrev pub invariant-loop-row : goal.invariant-loop-row
-invariant-loop-row l = (l.row ≤ 8) × (length l.tile ≡ 8) × (take l.row l.tile ≡ up_to l.row (row_colors l.depth l.table))
-
-abbrev pub decreases-loop-row : goal.decreases-loop-row
-decreases-loop-row l = 8 - l.row
+invariant-loop-row l = (length l.tile ≡ 8) × (take l.row l.tile ≡ up_to l.row (row_colors l.depth l.table))
