@@ -1,258 +1,300 @@
-// The rows of a BLT, one after the other: n pixels from pixel k, by the row for its kind. Each kind has a loop of its own, so that
-// what it makes ready is made ready once, and for no other kind.
+// The rows of a BLT, one after the other: n pixels from pixel k. One loop goes along them for every kind of row; what draws a row of
+// its kind is a painter.
 #![tactic(auto)]
 
-ghost use Rattle.std.specs.Prelude.{◌≡◌, true, ◌+◌, ◌/◌, ◌%◌, ◌^◌, ◌<◌, length};
+ghost use Rattle.std.specs.Prelude.{◌≡◌, ℕ, List, ⊤, ◌<◌, length};
+ghost use Rattle.model.specs.declared.Blt.{Blt};
 ghost use Rattle.model.specs.declared.Pattern.TheVariants.{Solid, Mono};
 ghost use Rattle.model.specs.declared.Source.TheVariants.{Frame, Bits};
-ghost use Rattle.laws.specs.Order.{blt_pixels};
-ghost use Rattle.laws.specs.Rows.{Band, Part};
-ghost use Rattle.laws.specs.Plain.{Plain, Served};
-ghost use Rattle.laws.specs.Moves.{is_full};
-ghost use Rattle.laws.specs.Tiles.{tile_pixels};
+ghost use Rattle.model.specs.BltPixel.{draw_at};
+ghost use Rattle.laws.specs.Order.{in_order, Remain};
+ghost use Rattle.laws.specs.Rows.{Band, Row, length_at};
+ghost use Rattle.laws.specs.Plain.{Plain};
+ghost use Rattle.laws.specs.Tiles.{tile_at, color_in};
+ghost use Rattle.blocks.specs.Plains.{Plain-prop};
+ghost use Rattle.bands.specs.Numbered.{numbered, AskedInRow, Asked};
 
-use model::{Blt, MonoPattern, MonoSource, Rectangle};
+use blocks::{BlendRows, CopyRows, FillRows};
+use model::{MonoPattern, MonoSource, Rectangle};
+use tiles::Tile;
 
-// ---- a walk along the rows, which may begin and end within one
+// ---- any kind of row
 
-// The column and the row that are next, and how many pixels are drawn.
-#[derive(Clone, Copy)]
-pub struct Walk {
-    pub column: usize,
-    pub row: usize,
-    pub drawn: usize,
+// What draws the rows of a kind of BLT.
+pub trait RowPainter {
+    // The BLT, whose destination says where the pixels lie.
+    ghost blt: { Self → Blt };
+
+    // What the pixel at column i of row j makes of frame memory.
+    ghost pixel: { Self → (i j : ℕ) → List ℕ → List ℕ };
+
+    // What that pixel asks beyond what the type keeps: of most nothing.
+    ghost asks: { Self → (i j : ℕ) → Type 0 } = { λ s i j. ⊤ };
+
+    // The pixels of a row.
+    fn width(&self) -> usize
+        ensures { result ≡ (blt self.now).destination.columns.count };
+
+    // Draws n pixels of row j, from column i.
+    fn paint(&self, f: &mut [u8], i: usize, j: usize, n: usize)
+        requires row { Row (length f.old) (blt self.now) i j n }
+        requires some { 0 < n }
+        requires asked { AskedInRow (asks self.now) i j n }
+        ensures { f.new ≡ in_order (λ x. pixel self.now x j) i n f.old };
+
+    // Draws whole rows of n pixels from pixel k, where that costs less than row by row, and says how many pixels that is.
+    fn paint_whole(&self, f: &mut [u8], k: usize, n: usize) -> usize
+        requires { Band (length f.old) (blt self.now) k n }
+        ensures { Remain (numbered (blt self.now) (pixel self.now)) k n f.old result f.new }
+    {
+        0
+    }
+
+    ghost keeps: { (s : Self) (i j : ℕ) (frame : List ℕ) → length (pixel s i j frame) ≡ length frame };
 }
 
-// From pixel k on.
-pub fn begin(k: usize, width: usize) -> Walk
-    requires { 0 < width }
-    ensures { (result.column ≡ k % width) × (result.row ≡ k / width) × (result.drawn ≡ 0) }
+// Draws n pixels from pixel k, row by row.
+fn paint_rows<P: RowPainter>(f: &mut [u8], painter: &P, k: usize, n: usize)
+    requires band { Band (length f.old) (P.blt painter.now) k n }
+    requires asked { Asked (P.blt painter.now) (P.asks painter.now) k n }
+    ensures { f.new ≡ in_order (numbered (P.blt painter.now) (P.pixel painter.now)) k n f.old }
 {
-    Walk {
-        column: rectangle::column_of(k, width),
-        row: rectangle::row_of(k, width),
-        drawn: 0,
+    let width = painter.width();
+    let mut column = rectangle::column_of(k, width);
+    let mut row = rectangle::row_of(k, width);
+    let mut drawn = 0;
+    // not a count of rows: the first and the last may be parts
+    while drawn < n {
+        let count = (width - column).min(n - drawn);
+        painter.paint(f, column, row, count);
+        column = 0;
+        row += 1;
+        drawn += count;
     }
 }
 
-// How many of the pixels left are of the row that is next.
-pub fn part(w: Walk, width: usize, n: usize) -> usize
-    requires { (w.drawn < n) × (w.column < width) }
-    ensures { Part width n w.column w.drawn result }
+// The same, whole rows first.
+pub fn paint<P: RowPainter>(f: &mut [u8], painter: &P, k: usize, n: usize)
+    requires band { Band (length f.old) (P.blt painter.now) k n }
+    requires asked { Asked (P.blt painter.now) (P.asks painter.now) k n }
+    ensures { f.new ≡ in_order (numbered (P.blt painter.now) (P.pixel painter.now)) k n f.old }
 {
-    let left = n - w.drawn;
-    let within = width - w.column;
-    if left < within {
-        return left;
-    }
-    within
-}
-
-// After c pixels the first column of the row after it.
-pub fn on(w: Walk, c: usize) -> Walk
-    requires { (w.row < 2 ^ 32) × (w.drawn < 2 ^ 32) × (c < 2 ^ 32) }
-    ensures { (result.column ≡ 0) × (result.row ≡ w.row + 1) × (result.drawn ≡ w.drawn + c) }
-{
-    Walk {
-        column: 0,
-        row: w.row + 1,
-        drawn: w.drawn + c,
+    let drawn = painter.paint_whole(f, k, n);
+    if drawn < n {
+        paint_rows(f, painter, k + drawn, n - drawn);
     }
 }
 
-// ---- the kinds
+// ---- the kinds that go whole rows first
 
-// What whole rows leave of a fill, row by row.
-fn fill_rows(f: &mut [u8], b: Blt, color: u32, k: usize, n: usize)
-    requires { (Band (length f.old) b k n) × (b.pattern ≡ Solid color) × (b.code ≡ 240) × (Served b.code b.source) }
-    ensures { f.new ≡ blt_pixels b k n f.old }
-{
-    let d = b.destination;
-    let columns = d.columns;
-    let width = columns.count;
-    let mut w = begin(k, width);
-    while w.drawn < n {
-        let c = part(w, width, n);
-        rows::fill(f, b, color, w.column, w.row, c);
-        w = on(w, c);
+impl RowPainter for FillRows {
+    ghost blt = { λ s. s.blt };
+
+    ghost pixel = { λ s. draw_at s.blt };
+
+    fn width(&self) -> usize {
+        self.blt.destination.columns.count
     }
+
+    fn paint(&self, f: &mut [u8], i: usize, j: usize, n: usize) {
+        rows::fill(f, self.blt, self.color, i, j, n);
+    }
+
+    fn paint_whole(&self, f: &mut [u8], k: usize, n: usize) -> usize {
+        blocks::paint(f, self, k, n)
+    }
+
+    ghost keeps = { λ s. length_at s.blt };
 }
 
-// A solid pattern under raster operation F0h, where one value serves as the source. Whole rows first.
-pub fn fill(f: &mut [u8], b: Blt, color: u32, k: usize, n: usize)
-    requires { (Band (length f.old) b k n) × (b.pattern ≡ Solid color) × (b.code ≡ 240) × (Served b.code b.source) }
-    ensures { f.new ≡ blt_pixels b k n f.old }
-{
-    let m = blocks::fill(f, b, color, k, n);
-    if m < n {
-        fill_rows(f, b, color, k + m, n - m);
+impl RowPainter for BlendRows {
+    ghost blt = { λ s. s.blt };
+
+    ghost pixel = { λ s. draw_at s.blt };
+
+    fn width(&self) -> usize {
+        self.blt.destination.columns.count
     }
+
+    fn paint(&self, f: &mut [u8], i: usize, j: usize, n: usize) {
+        rows::blend(f, self.blt, self.color, self.value, i, j, n);
+    }
+
+    fn paint_whole(&self, f: &mut [u8], k: usize, n: usize) -> usize {
+        blocks::paint(f, self, k, n)
+    }
+
+    ghost keeps = { λ s. length_at s.blt };
 }
 
-// What whole rows leave of one blend, row by row.
-fn blend_rows(f: &mut [u8], b: Blt, color: u32, value: u32, k: usize, n: usize)
-    requires { (Band (length f.old) b k n) × (b.pattern ≡ Solid color) × (Plain b.code b.source value) }
-    ensures { f.new ≡ blt_pixels b k n f.old }
-{
-    let d = b.destination;
-    let columns = d.columns;
-    let width = columns.count;
-    let mut w = begin(k, width);
-    while w.drawn < n {
-        let c = part(w, width, n);
-        rows::blend(f, b, color, value, w.column, w.row, c);
-        w = on(w, c);
+impl RowPainter for CopyRows {
+    ghost blt = { λ s. s.blt };
+
+    ghost pixel = { λ s. draw_at s.blt };
+
+    fn width(&self) -> usize {
+        self.blt.destination.columns.count
     }
+
+    fn paint(&self, f: &mut [u8], i: usize, j: usize, n: usize) {
+        moves::copy(f, self.blt, self.source, i, j, n);
+    }
+
+    fn paint_whole(&self, f: &mut [u8], k: usize, n: usize) -> usize {
+        blocks::paint(f, self, k, n)
+    }
+
+    ghost keeps = { λ s. length_at s.blt };
 }
 
-// A solid pattern under any raster operation, where one value serves as the source. Whole rows first.
-pub fn blend(f: &mut [u8], b: Blt, color: u32, value: u32, k: usize, n: usize)
-    requires { (Band (length f.old) b k n) × (b.pattern ≡ Solid color) × (Plain b.code b.source value) }
-    ensures { f.new ≡ blt_pixels b k n f.old }
-{
-    let m = blocks::blend(f, b, color, value, k, n);
-    if m < n {
-        blend_rows(f, b, color, value, k + m, n - m);
-    }
-}
+// ---- the other kinds
 
 // A mono pattern, where one value serves as the source.
-pub fn mono(f: &mut [u8], b: Blt, p: MonoPattern, value: u32, k: usize, n: usize)
-    requires { (Band (length f.old) b k n) × (b.pattern ≡ Mono p) × (Plain b.code b.source value) }
-    ensures { f.new ≡ blt_pixels b k n f.old }
-{
-    let d = b.destination;
-    let columns = d.columns;
-    let width = columns.count;
-    let mut w = begin(k, width);
-    while w.drawn < n {
-        let c = part(w, width, n);
-        rows::mono(f, b, p, value, w.column, w.row, c);
-        w = on(w, c);
-    }
+#[derive(Clone, Copy)]
+pub struct MonoRows {
+    pub blt: model::Blt,
+    pub pattern: MonoPattern,
+    pub value: u32,
+    pub ghost mono: { blt.pattern ≡ Mono pattern },
+    pub ghost plain: { Plain blt.code blt.source value } by { Plain-prop blt.code blt.source value },
 }
 
-// What whole rows leave of a copy, row by row.
-fn copy_rows(f: &mut [u8], b: Blt, s: Rectangle, k: usize, n: usize)
-    requires { (Band (length f.old) b k n) × (b.source ≡ Frame s) × (b.code ≡ 204) × (is_full b.pattern ≡ true) }
-    ensures { f.new ≡ blt_pixels b k n f.old }
-{
-    let d = b.destination;
-    let columns = d.columns;
-    let width = columns.count;
-    let mut w = begin(k, width);
-    while w.drawn < n {
-        let c = part(w, width, n);
-        moves::copy(f, b, s, w.column, w.row, c);
-        w = on(w, c);
-    }
-}
+impl RowPainter for MonoRows {
+    ghost blt = { λ s. s.blt };
 
-// A source in frame memory under raster operation CCh, with a pattern that gives every pixel a value. Whole rows first.
-pub fn copy(f: &mut [u8], b: Blt, s: Rectangle, k: usize, n: usize)
-    requires { (Band (length f.old) b k n) × (b.source ≡ Frame s) × (b.code ≡ 204) × (is_full b.pattern ≡ true) }
-    ensures { f.new ≡ blt_pixels b k n f.old }
-{
-    let m = blocks::copy(f, b, s, k, n);
-    if m < n {
-        copy_rows(f, b, s, k + m, n - m);
+    ghost pixel = { λ s. draw_at s.blt };
+
+    fn width(&self) -> usize {
+        self.blt.destination.columns.count
     }
+
+    fn paint(&self, f: &mut [u8], i: usize, j: usize, n: usize) {
+        rows::mono(f, self.blt, self.pattern, self.value, i, j, n);
+    }
+
+    ghost keeps = { λ s. length_at s.blt };
 }
 
 // A solid pattern with a source in frame memory.
-pub fn combine(f: &mut [u8], b: Blt, color: u32, s: Rectangle, k: usize, n: usize)
-    requires { (Band (length f.old) b k n) × (b.pattern ≡ Solid color) × (b.source ≡ Frame s) }
-    ensures { f.new ≡ blt_pixels b k n f.old }
-{
-    let d = b.destination;
-    let columns = d.columns;
-    let width = columns.count;
-    let mut w = begin(k, width);
-    while w.drawn < n {
-        let c = part(w, width, n);
-        mixes::combine(f, b, color, s, w.column, w.row, c);
-        w = on(w, c);
+#[derive(Clone, Copy)]
+pub struct CombineRows {
+    pub blt: model::Blt,
+    pub color: u32,
+    pub source: Rectangle,
+    pub ghost solid: { blt.pattern ≡ Solid color },
+    pub ghost framed: { blt.source ≡ Frame source },
+}
+
+impl RowPainter for CombineRows {
+    ghost blt = { λ s. s.blt };
+
+    ghost pixel = { λ s. draw_at s.blt };
+
+    fn width(&self) -> usize {
+        self.blt.destination.columns.count
     }
+
+    fn paint(&self, f: &mut [u8], i: usize, j: usize, n: usize) {
+        mixes::combine(f, self.blt, self.color, self.source, i, j, n);
+    }
+
+    ghost keeps = { λ s. length_at s.blt };
 }
 
 // A solid pattern with a mono source.
-pub fn bits(f: &mut [u8], b: Blt, color: u32, s: MonoSource, k: usize, n: usize)
-    requires { (Band (length f.old) b k n) × (b.pattern ≡ Solid color) × (b.source ≡ Bits s) }
-    ensures { f.new ≡ blt_pixels b k n f.old }
-{
-    let d = b.destination;
-    let columns = d.columns;
-    let width = columns.count;
-    let mut w = begin(k, width);
-    while w.drawn < n {
-        let c = part(w, width, n);
-        glyphs::bits(f, b, color, s, w.column, w.row, c);
-        w = on(w, c);
+#[derive(Clone, Copy)]
+pub struct BitRows {
+    pub blt: model::Blt,
+    pub color: u32,
+    pub source: MonoSource,
+    pub ghost solid: { blt.pattern ≡ Solid color },
+    pub ghost bits: { blt.source ≡ Bits source },
+}
+
+impl RowPainter for BitRows {
+    ghost blt = { λ s. s.blt };
+
+    ghost pixel = { λ s. draw_at s.blt };
+
+    fn width(&self) -> usize {
+        self.blt.destination.columns.count
     }
+
+    fn paint(&self, f: &mut [u8], i: usize, j: usize, n: usize) {
+        glyphs::bits(f, self.blt, self.color, self.source, i, j, n);
+    }
+
+    ghost keeps = { λ s. length_at s.blt };
 }
 
 // Any source and pattern.
-pub fn general(f: &mut [u8], b: Blt, k: usize, n: usize)
-    requires { Band (length f.old) b k n }
-    ensures { f.new ≡ blt_pixels b k n f.old }
-{
-    let d = b.destination;
-    let columns = d.columns;
-    let width = columns.count;
-    let mut w = begin(k, width);
-    while w.drawn < n {
-        let c = part(w, width, n);
-        rows::general(f, b, w.column, w.row, c);
-        w = on(w, c);
+#[derive(Clone, Copy)]
+pub struct AnyRows {
+    pub blt: model::Blt,
+}
+
+impl RowPainter for AnyRows {
+    ghost blt = { λ s. s.blt };
+
+    ghost pixel = { λ s. draw_at s.blt };
+
+    fn width(&self) -> usize {
+        self.blt.destination.columns.count
     }
+
+    fn paint(&self, f: &mut [u8], i: usize, j: usize, n: usize) {
+        rows::general(f, self.blt, i, j, n);
+    }
+
+    ghost keeps = { λ s. length_at s.blt };
 }
 
 // ---- colour patterns
 
-// Raster operation F0h, where one value serves as the source.
-pub fn tile_fill(
-    f: &mut [u8],
-    b: Blt,
-    tile: &[[u32; 8]; 8],
-    row: usize,
-    column: usize,
-    k: usize,
-    n: usize,
-)
-    requires { (Band (length f.old) b k n) × (row < 8) × (column < 8) × (b.code ≡ 240) × (Served b.code b.source) }
-    ensures { f.new ≡ tile_pixels tile.now row column b k n f.old }
-{
-    let d = b.destination;
-    let columns = d.columns;
-    let width = columns.count;
-    let mut w = begin(k, width);
-    while w.drawn < n {
-        let c = part(w, width, n);
-        tiles::fill(f, b, tile, row, column, w.column, w.row, c);
-        w = on(w, c);
+// Raster operation F0h, where one value serves as the source; which one is of no account.
+#[derive(Clone, Copy)]
+pub struct TileFillRows<'a> {
+    pub blt: model::Blt,
+    pub tile: &'a Tile,
+    pub ghost code: { blt.code ≡ 240 },
+    pub ghost plain: { Plain blt.code blt.source 0 } by { Plain-prop blt.code blt.source 0 },
+}
+
+impl<'a> RowPainter for TileFillRows<'a> {
+    ghost blt = { λ s. s.blt };
+
+    ghost pixel = { λ s. tile_at s.tile.now.colors s.tile.now.row s.tile.now.column s.blt };
+
+    fn width(&self) -> usize {
+        self.blt.destination.columns.count
     }
+
+    fn paint(&self, f: &mut [u8], i: usize, j: usize, n: usize) {
+        tiles::fill(f, self.blt, self.tile, i, j, n);
+    }
+
+    ghost keeps = { λ s i j. length_at _ i j };
 }
 
 // Any raster operation and source.
-pub fn tile_general(
-    f: &mut [u8],
-    b: Blt,
-    tile: &[[u32; 8]; 8],
-    row: usize,
-    column: usize,
-    k: usize,
-    n: usize,
-)
-    requires { (Band (length f.old) b k n) × (row < 8) × (column < 8) }
-    ensures { f.new ≡ tile_pixels tile.now row column b k n f.old }
-{
-    let d = b.destination;
-    let columns = d.columns;
-    let width = columns.count;
-    let mut w = begin(k, width);
-    while w.drawn < n {
-        let c = part(w, width, n);
-        tiles::general(f, b, tile, row, column, w.column, w.row, c);
-        w = on(w, c);
+#[derive(Clone, Copy)]
+pub struct TileRows<'a> {
+    pub blt: model::Blt,
+    pub tile: &'a Tile,
+}
+
+impl<'a> RowPainter for TileRows<'a> {
+    ghost blt = { λ s. s.blt };
+
+    ghost pixel = { λ s. tile_at s.tile.now.colors s.tile.now.row s.tile.now.column s.blt };
+
+    fn width(&self) -> usize {
+        self.blt.destination.columns.count
     }
+
+    fn paint(&self, f: &mut [u8], i: usize, j: usize, n: usize) {
+        tiles::general(f, self.blt, self.tile, i, j, n);
+    }
+
+    ghost keeps = { λ s i j. length_at _ i j };
 }

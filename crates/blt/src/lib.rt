@@ -1,14 +1,13 @@
 // A BLT: what its registers describe, and its pixels drawn row by row.
 #![tactic(auto)]
 
-ghost use Rattle.std.specs.Prelude.{◌≡◌, ◌+◌, ◌-◌, ◌≤◌, ◌<◌, length, ◌&&◌};
+ghost use Rattle.std.specs.Prelude.{◌≡◌, ◌+◌, ◌-◌, ◌≤◌, ◌<◌, length, ◌&&◌, Some, None, if◌then◌else◌};
 ghost use Rattle.model.specs.Limits.{frame_most};
 ghost use Rattle.model.specs.Bits.{field};
 ghost use Rattle.model.specs.Choice.{◌=?◌};
 ghost use Rattle.model.specs.Registers.{register_count, word, source_address, pattern_mode, channel3_enable, channel3_pattern_mode};
 ghost use Rattle.model.specs.Rectangle.{pixels_of};
-ghost use Rattle.model.specs.BltPixel.{rectangle_of, mono_mode, row_stride, bytes_of, mono_source_of, pattern_of, blt_of, with_color, draw_tiled};
-ghost use Rattle.model.specs.declared.ColorPattern.TheVariants.{Tile};
+ghost use Rattle.model.specs.BltPixel.{rectangle_of, mono_mode, row_stride, bytes_of, mono_source_of, pattern_of, color_pattern_of, blt_of, draw_tiled, tile_from};
 ghost use Rattle.model.specs.declared.Pattern.TheVariants.{Solid};
 ghost use Rattle.model.specs.declared.Source.TheVariants.{Frame, Bits};
 ghost use Rattle.laws.specs.Order.{in_order, blt_pixels};
@@ -17,12 +16,16 @@ ghost use Rattle.laws.specs.Rows.{Band};
 ghost use Rattle.laws.specs.Plain.{sourceless, is_plain, plain_value, Plain};
 ghost use Rattle.laws.specs.Moves.{is_full};
 ghost use Rattle.laws.specs.Tiles.{tile_pixels};
+ghost use Rattle.blt.specs.Origin.{pattern_at};
 
+use bands::{AnyRows, BitRows, CombineRows, MonoRows, TileFillRows, TileRows};
+use blocks::{BlendRows, CopyRows, FillRows};
 use model::{
-    Axis, BLT_MODE, Blt, CH3_MODE_STR, DST_OFFSET, MonoPattern, MonoSource, PAT_COLOR_0,
-    PAT_COLOR_1, PAT_DATA_0, PAT_DATA_1, Pattern, RASTER_MODE, REGISTERS, Rectangle, SRC_COLOR_BG,
-    SRC_COLOR_FG, SRC_OFFSET, STRIDE, Source, TABLE, WID_HEIGHT,
+    Axis, BLT_MODE, Blt, CH3_MODE_STR, CH3_OFFSET, DST_OFFSET, MonoPattern, MonoSource,
+    PAT_COLOR_0, PAT_COLOR_1, PAT_DATA_0, PAT_DATA_1, Pattern, RASTER_MODE, REGISTERS, Rectangle,
+    SRC_COLOR_BG, SRC_COLOR_FG, SRC_OFFSET, STRIDE, Source, TABLE, WID_HEIGHT,
 };
+use tiles::Tile;
 
 // ---- the registers
 
@@ -43,6 +46,7 @@ fn number(registers: [u32; REGISTERS], r: usize, high: u32, low: u32) -> usize
 }
 
 // The rectangle of the BLT's size and directions with this offset and stride.
+#[tactic(auto, unfolding(model::specs::BltPixel::rectangle_of))]
 fn rectangle_of(registers: [u32; REGISTERS], offset: usize, stride: usize) -> Rectangle
     ensures { result ≡ rectangle_of registers offset stride }
 {
@@ -67,11 +71,7 @@ fn rectangle_of(registers: [u32; REGISTERS], offset: usize, stride: usize) -> Re
 pub fn is_mono(registers: [u32; REGISTERS]) -> bool
     ensures { result ≡ mono_mode registers }
 {
-    let mode = bits(registers, BLT_MODE, 7, 6);
-    if mode == 0b01 {
-        return true;
-    }
-    mode == 0b10
+    matches!(bits(registers, BLT_MODE, 7, 6), 0b01 | 0b10)
 }
 
 // The bytes from one row of a mono source's bits to the next.
@@ -81,27 +81,19 @@ fn row_stride(registers: [u32; REGISTERS]) -> usize
     if bits(registers, BLT_MODE, 7, 6) == 0b10 {
         let skip = number(registers, SRC_OFFSET, 28, 26);
         let width = number(registers, WID_HEIGHT, 27, 16);
-        return (skip + width + 7) / 8;
+        (skip + width + 7) / 8
+    } else {
+        number(registers, STRIDE, 31, 16)
     }
-    number(registers, STRIDE, 31, 16)
-}
-
-// One less, or 0.
-fn less_one(n: usize) -> usize
-    ensures { result ≡ n - 1 }
-{
-    if n == 0 {
-        return 0;
-    }
-    n - 1
 }
 
 // The bytes that hold a mono source's bits, from the source's address on.
+#[tactic(auto, unfolding(model::specs::BltPixel::bytes_of))]
 fn bytes_of(registers: [u32; REGISTERS], offset: usize) -> Rectangle
     requires { offset ≡ source_address registers }
     ensures { result ≡ bytes_of registers }
 {
-    let last = less_one(number(registers, WID_HEIGHT, 27, 16));
+    let last = number(registers, WID_HEIGHT, 27, 16).saturating_sub(1);
     Rectangle {
         offset,
         depth: 1,
@@ -119,6 +111,7 @@ fn bytes_of(registers: [u32; REGISTERS], offset: usize) -> Rectangle
 }
 
 // The mono source at the source's address. Found once for both modes, the address leaves `source_of` small enough to be inlined.
+#[tactic(auto, unfolding(model::specs::BltPixel::mono_source_of))]
 fn mono_source_at(registers: [u32; REGISTERS], offset: usize) -> MonoSource
     requires { offset ≡ source_address registers }
     ensures { result ≡ mono_source_of registers }
@@ -141,15 +134,19 @@ pub fn mono_source_of(registers: [u32; REGISTERS]) -> MonoSource
 }
 
 // Where the pixels are drawn.
+#[tactic(auto, unfolding(model::specs::BltPixel::blt_of))]
 pub fn destination_of(registers: [u32; REGISTERS]) -> Rectangle
     ensures { result ≡ (blt_of registers).destination }
 {
-    let offset = fields::destination_address(registers);
-    let stride = number(registers, STRIDE, 15, 0);
-    rectangle_of(registers, offset, stride)
+    rectangle_of(
+        registers,
+        fields::destination_address(registers),
+        number(registers, STRIDE, 15, 0),
+    )
 }
 
 // Where the source values come from.
+#[tactic(auto, unfolding(model::specs::BltPixel::source_of, model::specs::BltPixel::blt_of))]
 pub fn source_of(registers: [u32; REGISTERS]) -> Source
     ensures { result ≡ (blt_of registers).source }
 {
@@ -157,20 +154,21 @@ pub fn source_of(registers: [u32; REGISTERS]) -> Source
         return Source::Unselected(registers[SRC_COLOR_FG]);
     }
     let offset = fields::source_address(registers);
-    let mono = is_mono(registers);
-    if mono {
-        return Source::Bits(mono_source_at(registers, offset));
+    if is_mono(registers) {
+        Source::Bits(mono_source_at(registers, offset))
+    } else {
+        let stride = number(registers, STRIDE, 31, 16);
+        Source::Frame(rectangle_of(registers, offset, stride))
     }
-    let stride = number(registers, STRIDE, 31, 16);
-    Source::Frame(rectangle_of(registers, offset, stride))
 }
 
 // Where the pattern values come from.
+#[tactic(auto, unfolding(model::specs::BltPixel::pattern_of))]
 fn pattern_of(registers: [u32; REGISTERS]) -> Pattern
     ensures { result ≡ pattern_of registers }
 {
     if bits(registers, RASTER_MODE, 9, 8) == 0b01 {
-        return Pattern::Mono(MonoPattern {
+        Pattern::Mono(MonoPattern {
             data0: registers[PAT_DATA_0],
             data1: registers[PAT_DATA_1],
             row: number(registers, DST_OFFSET, 31, 29),
@@ -178,9 +176,10 @@ fn pattern_of(registers: [u32; REGISTERS]) -> Pattern
             color0: registers[PAT_COLOR_0],
             color1: registers[PAT_COLOR_1],
             transparent: fields::is_set(registers[RASTER_MODE], 10),
-        });
+        })
+    } else {
+        Pattern::Solid(registers[PAT_COLOR_0])
     }
-    Pattern::Solid(registers[PAT_COLOR_0])
 }
 
 // Whether channel 3 gives the pattern.
@@ -188,11 +187,7 @@ pub fn is_channel3(registers: [u32; REGISTERS]) -> bool
     ensures { result ≡ (channel3_enable registers && channel3_pattern_mode registers) }
 {
     let mode = registers[CH3_MODE_STR];
-    let enabled = fields::is_set(mode, 31);
-    if enabled {
-        return fields::is_set(mode, 21);
-    }
-    false
+    fields::is_set(mode, 31) && fields::is_set(mode, 21)
 }
 
 // Whether RASTER_MODE selects the colour pattern.
@@ -202,7 +197,23 @@ pub fn is_tiled(registers: [u32; REGISTERS]) -> bool
     bits(registers, RASTER_MODE, 9, 8) == 0b10
 }
 
-// The BLT that the registers describe.
+// The offset register whose low bits say where in the tile the first pixel lies, if the BLT has a colour pattern.
+#[tactic(auto, unfolding(model::specs::BltPixel::color_pattern_of))]
+pub fn tile_origin(registers: [u32; REGISTERS]) -> Option<u32>
+    ensures { color_pattern_of registers ≡ pattern_at result }
+{
+    if is_channel3(registers) {
+        Some(registers[CH3_OFFSET])
+    } else if is_tiled(registers) {
+        Some(registers[DST_OFFSET])
+    } else {
+        None
+    }
+}
+
+// The BLT that the registers describe. Inlined, it is made in place.
+#[tactic(auto, unfolding(model::specs::BltPixel::blt_of))]
+#[inline(always)]
 pub fn blt_of(registers: [u32; REGISTERS]) -> Blt
     ensures { result ≡ blt_of registers }
 {
@@ -214,68 +225,23 @@ pub fn blt_of(registers: [u32; REGISTERS]) -> Blt
     }
 }
 
-// The same, for a host source to give its values. Each of the two has one caller, so that the compiler inlines it.
-pub fn host_blt_of(registers: [u32; REGISTERS]) -> Blt
-    ensures { result ≡ blt_of registers }
-{
-    Blt {
-        destination: destination_of(registers),
-        source: source_of(registers),
-        pattern: pattern_of(registers),
-        code: bits(registers, RASTER_MODE, 7, 0),
-    }
-}
-
-// The same with no pattern, for a tile to give its colours.
-fn plain_of(registers: [u32; REGISTERS]) -> Blt
-    ensures { result ≡ with_color (blt_of registers) 0 }
-{
-    let pattern = Pattern::Solid(0);
-    Blt {
-        destination: destination_of(registers),
-        source: source_of(registers),
-        pattern,
-        code: bits(registers, RASTER_MODE, 7, 0),
-    }
-}
-
 // ---- pixels
 
 // Whether a raster operation gives the same whatever the source.
 fn is_sourceless(code: u32) -> bool
     ensures { result ≡ sourceless code }
 {
-    if code == 0x5A {
-        return true;
-    }
-    code == 0xF0
+    matches!(code, 0x5A | 0xF0)
 }
 
-// Whether one value serves as the source of every pixel.
-fn is_plain(code: u32, s: Source) -> bool
-    ensures { result ≡ is_plain code s }
+// The value that serves as the source of every pixel, if one does.
+fn plain_value(code: u32, s: Source) -> Option<u32>
+    ensures { result ≡ (if is_plain code s then Some (plain_value s) else None) }
 {
     match s {
-        Source::Unselected(_) => true,
-        Source::Frame(_) => is_sourceless(code),
-        Source::Bits(m) => {
-            let sourceless = is_sourceless(code);
-            if sourceless {
-                return !m.transparent;
-            }
-            false
-        }
-    }
-}
-
-// The value that serves.
-fn plain_value(s: Source) -> u32
-    ensures { result ≡ plain_value s }
-{
-    match s {
-        Source::Unselected(value) => value,
-        Source::Frame(_) => 0,
-        Source::Bits(_) => 0,
+        Source::Unselected(value) => Some(value),
+        Source::Frame(_) => is_sourceless(code).then_some(0),
+        Source::Bits(m) => (is_sourceless(code) && !m.transparent).then_some(0),
     }
 }
 
@@ -290,68 +256,98 @@ pub fn is_full(p: Pattern) -> bool
 }
 
 // Draws n pixels with a solid pattern for which one value serves as the source.
+#[tactic(auto, using(crate::proofs::Serving::serves_fill), unfolding(model::specs::BltPixel::draw_blt))]
 fn draw_solid(f: &mut [u8], b: Blt, color: u32, value: u32, k: usize, n: usize)
-    requires { (Band (length f.old) b k n) × (b.pattern ≡ Solid color) × (Plain b.code b.source value) }
+    requires band { Band (length f.old) b k n }
+    requires solid { b.pattern ≡ Solid color }
+    requires plain { Plain b.code b.source value }
     ensures { f.new ≡ blt_pixels b k n f.old }
 {
-    let code = b.code;
-    if code == 0xF0 {
-        bands::fill(f, b, color, k, n);
-        return;
+    if b.code == 0xF0 {
+        bands::paint(f, &FillRows { blt: b, color }, k, n);
+    } else {
+        bands::paint(
+            f,
+            &BlendRows {
+                blt: b,
+                color,
+                value,
+            },
+            k,
+            n,
+        );
     }
-    bands::blend(f, b, color, value, k, n);
 }
 
 // Draws n pixels for which one value serves as the source.
+#[tactic(auto, unfolding(model::specs::BltPixel::draw_blt))]
 fn draw_plain(f: &mut [u8], b: Blt, value: u32, k: usize, n: usize)
-    requires { (Band (length f.old) b k n) × (Plain b.code b.source value) }
+    requires band { Band (length f.old) b k n }
+    requires plain { Plain b.code b.source value }
     ensures { f.new ≡ blt_pixels b k n f.old }
 {
-    let p = b.pattern;
-    match p {
+    match b.pattern {
         Pattern::Solid(color) => draw_solid(f, b, color, value, k, n),
-        Pattern::Mono(m) => bands::mono(f, b, m, value, k, n),
-    }
-}
-
-// Draws n pixels that combine their source in frame memory with a pattern and with what stands there.
-fn draw_combined(f: &mut [u8], b: Blt, s: Rectangle, k: usize, n: usize)
-    requires { (Band (length f.old) b k n) × (b.source ≡ Frame s) }
-    ensures { f.new ≡ blt_pixels b k n f.old }
-{
-    let p = b.pattern;
-    match p {
-        Pattern::Solid(color) => bands::combine(f, b, color, s, k, n),
-        Pattern::Mono(_) => bands::general(f, b, k, n),
+        Pattern::Mono(pattern) => bands::paint(
+            f,
+            &MonoRows {
+                blt: b,
+                pattern,
+                value,
+            },
+            k,
+            n,
+        ),
     }
 }
 
 // Draws n pixels that read their source in frame memory: a copy, or another combination.
-fn draw_frame(f: &mut [u8], b: Blt, s: Rectangle, k: usize, n: usize)
-    requires { (Band (length f.old) b k n) × (b.source ≡ Frame s) }
+#[tactic(auto, unfolding(model::specs::BltPixel::draw_blt))]
+fn draw_frame(f: &mut [u8], b: Blt, source: Rectangle, k: usize, n: usize)
+    requires band { Band (length f.old) b k n }
+    requires framed { b.source ≡ Frame source }
     ensures { f.new ≡ blt_pixels b k n f.old }
 {
-    let code = b.code;
-    if code == 0xCC {
-        let p = b.pattern;
-        let full = is_full(p);
-        if full {
-            bands::copy(f, b, s, k, n);
-            return;
+    if b.code == 0xCC && is_full(b.pattern) {
+        bands::paint(f, &CopyRows { blt: b, source }, k, n);
+    } else {
+        match b.pattern {
+            Pattern::Solid(color) => {
+                bands::paint(
+                    f,
+                    &CombineRows {
+                        blt: b,
+                        color,
+                        source,
+                    },
+                    k,
+                    n,
+                )
+            }
+            Pattern::Mono(_) => bands::paint(f, &AnyRows { blt: b }, k, n),
         }
     }
-    draw_combined(f, b, s, k, n);
 }
 
 // Draws n pixels that read their bits.
-fn draw_bits(f: &mut [u8], b: Blt, s: MonoSource, k: usize, n: usize)
-    requires { (Band (length f.old) b k n) × (b.source ≡ Bits s) }
+#[tactic(auto, unfolding(model::specs::BltPixel::draw_blt))]
+fn draw_bits(f: &mut [u8], b: Blt, source: MonoSource, k: usize, n: usize)
+    requires band { Band (length f.old) b k n }
+    requires bits { b.source ≡ Bits source }
     ensures { f.new ≡ blt_pixels b k n f.old }
 {
-    let p = b.pattern;
-    match p {
-        Pattern::Solid(color) => bands::bits(f, b, color, s, k, n),
-        Pattern::Mono(_) => bands::general(f, b, k, n),
+    match b.pattern {
+        Pattern::Solid(color) => bands::paint(
+            f,
+            &BitRows {
+                blt: b,
+                color,
+                source,
+            },
+            k,
+            n,
+        ),
+        Pattern::Mono(_) => bands::paint(f, &AnyRows { blt: b }, k, n),
     }
 }
 
@@ -360,46 +356,33 @@ pub fn draw(f: &mut [u8], b: Blt, k: usize, n: usize)
     requires { (FitBlt (length f.old) b) × (k + n ≤ pixels_of b.destination) × (length f.old ≤ frame_most) }
     ensures { f.new ≡ blt_pixels b k n f.old }
 {
-    let s = b.source;
-    let plain = is_plain(b.code, s);
-    if plain {
-        draw_plain(f, b, plain_value(s), k, n);
-        return;
-    }
-    match s {
-        // one value would serve
-        Source::Unselected(_) => {}
-        Source::Frame(r) => draw_frame(f, b, r, k, n),
-        Source::Bits(m) => draw_bits(f, b, m, k, n),
+    if let Some(value) = plain_value(b.code, b.source) {
+        draw_plain(f, b, value, k, n);
+    } else {
+        match b.source {
+            // one value would serve
+            Source::Unselected(_) => {}
+            Source::Frame(r) => draw_frame(f, b, r, k, n),
+            Source::Bits(m) => draw_bits(f, b, m, k, n),
+        }
     }
 }
 
 // Draws n pixels with a colour pattern, from pixel k.
-fn draw_tile(
-    f: &mut [u8],
-    b: Blt,
-    tile: &[[u32; 8]; 8],
-    row: usize,
-    column: usize,
-    k: usize,
-    n: usize,
-)
-    requires { (Band (length f.old) b k n) × (row < 8) × (column < 8) }
-    ensures { f.new ≡ tile_pixels tile.now row column b k n f.old }
+fn draw_tile(f: &mut [u8], b: Blt, tile: &Tile, k: usize, n: usize)
+    requires { Band (length f.old) b k n }
+    ensures { f.new ≡ tile_pixels tile.now.colors tile.now.row tile.now.column b k n f.old }
 {
-    if b.code == 0xF0 {
-        let s = b.source;
-        let plain = is_plain(b.code, s);
-        if plain {
-            bands::tile_fill(f, b, tile, row, column, k, n);
-            return;
-        }
+    if b.code == 0xF0 && plain_value(b.code, b.source).is_some() {
+        bands::paint(f, &TileFillRows { blt: b, tile }, k, n);
+    } else {
+        bands::paint(f, &TileRows { blt: b, tile }, k, n);
     }
-    bands::tile_general(f, b, tile, row, column, k, n);
 }
 
 // Draws n pixels with the tile that stands in the lookup table; `origin` is the offset register whose low bits say where in the tile
-// the first pixel lies. Called for either way to select it, so the compiler keeps it out of the way of other BLTs.
+// the first pixel lies. The compiler keeps it out of the way of other BLTs.
+#[inline(never)]
 pub fn draw_colors(
     f: &mut [u8],
     registers: [u32; REGISTERS],
@@ -409,12 +392,13 @@ pub fn draw_colors(
     n: usize,
 )
     requires { Band (length f.old) (blt_of registers) k n }
-    ensures { f.new ≡ in_order (draw_tiled (Tile (field origin 31 29) (field origin 28 26)) table.now (blt_of registers)) k n f.old }
+    ensures { f.new ≡ in_order (draw_tiled (tile_from (field origin 31 29) (field origin 28 26)) table.now (blt_of registers)) k n f.old }
 {
-    let b = plain_of(registers);
-    let d = b.destination;
-    let tile = tiles::tile_of(table, d.depth);
-    let row = fields::number(origin, 31, 29);
-    let column = fields::number(origin, 28, 26);
-    draw_tile(f, b, &tile, row, column, k, n);
+    let b = blt_of(registers);
+    let tile = Tile {
+        colors: tiles::tile_of(table, b.destination.depth),
+        row: fields::number(origin, 31, 29),
+        column: fields::number(origin, 28, 26),
+    };
+    draw_tile(f, b, &tile, k, n);
 }

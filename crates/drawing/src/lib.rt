@@ -9,7 +9,7 @@ ghost use Rattle.model.specs.Unit.{pixel_count};
 ghost use Rattle.model.specs.declared.Primitive.TheVariants.{Blt as BltPrimitive};
 ghost use Rattle.laws.specs.Order.{pixels};
 
-use model::{BLT_MODE, CH3_OFFSET, DST_OFFSET, Primitive, REGISTERS, TABLE, WID_HEIGHT};
+use model::{BLT_MODE, Primitive, REGISTERS, TABLE, WID_HEIGHT};
 
 // How many pixels it has.
 pub fn pixel_count(primitive: Primitive, registers: [u32; REGISTERS]) -> usize
@@ -38,17 +38,10 @@ fn draw_blt(frame: &mut [u8], registers: [u32; REGISTERS], table: &[u32; TABLE],
     requires { (judge BltPrimitive registers (length frame.old) ≡ 0) × (k + n ≤ pixel_count BltPrimitive registers) × (length frame.old ≤ frame_most) }
     ensures { frame.new ≡ pixels BltPrimitive registers table.now k n frame.old }
 {
-    let channel3 = blt::is_channel3(registers);
-    if channel3 {
-        blt::draw_colors(frame, registers, table, registers[CH3_OFFSET], k, n);
-        return;
+    match blt::tile_origin(registers) {
+        Some(origin) => blt::draw_colors(frame, registers, table, origin, k, n),
+        None => blt::draw(frame, blt::blt_of(registers), k, n),
     }
-    let tiled = blt::is_tiled(registers);
-    if tiled {
-        blt::draw_colors(frame, registers, table, registers[DST_OFFSET], k, n);
-        return;
-    }
-    blt::draw(frame, blt::blt_of(registers), k, n);
 }
 
 // Draws n pixels of what judging accepts, from pixel k.

@@ -1,16 +1,16 @@
 -- A BLT with host source as its registers describe it, and what is asked where pixels of it are drawn.
-use Rattle.std.specs.Prelude.{ℕ, ◌+◌, ◌/◌, ◌%◌, ◌≤◌, ◌<◌, ◌≡◌, true, false, List, []}
+use Rattle.std.specs.Prelude.{ℕ, ◌+◌, ◌/◌, ◌%◌, ◌≤◌, ◌<◌, ◌≡◌, true, false, List, [], None}
 use Rattle.model.specs.Rectangle.{column_of, row_of}
-use Rattle.model.specs.BltPixel.{mono_mode, mono_source_of, blt_of, with_color}
+use Rattle.model.specs.BltPixel.{mono_mode, mono_source_of, blt_of, with_color, draw_from}
 use Rattle.model.specs.Host.{host_of, host_byte, host_word, draw_host}
-use Rattle.model.specs.declared.ColorPattern.TheVariants.{Absent}
 use Rattle.model.specs.declared.Host.{Host}
+use Rattle.model.specs.declared.Pattern.{Pattern}
 use Rattle.laws.specs.Rows.{Row, Band, PixelOf}
 use Rattle.laws.specs.Order.{in_order}
 use Rattle.laws.specs.Moves.{is_full}
 use Rattle.laws.specs.Tiles.{color_in}
 use Rattle.laws.specs.Host.{RangedHost}
-use Rattle.laws.specs.Pictures.{host_at, Colored}
+use Rattle.laws.specs.Pictures.{host_at, value_in, Colored}
 use Rattle.host.specs.declared.Picture.{Picture}
 
 unfoldable pub picture_of : List ℕ → Picture
@@ -34,14 +34,16 @@ pub record Held (ringsize : ℕ) (h : Host) (before i j : ℕ) : Type 0 where
   pub begun : before ≤ host_byte h i j / 4
   pub ended : host_byte h i j / 4 + 3 ≤ before + ringsize
 
--- the same with a solid pattern of this colour in place of its pattern
-abbrev pub picture_with : Picture → ℕ → Picture
-picture_with p color = record { blt = with_color p.blt color; host = p.host; mono = p.mono; bits = p.bits }
+-- its pixel at column i of row j with this pattern in place of its own
+abbrev pub patterned_at : Pattern → Picture → (ℕ → ℕ) → (i j : ℕ) → List ℕ → List ℕ
+patterned_at pattern p words i j =
+    draw_from (record { destination = p.blt.destination; source = p.blt.source; pattern = pattern; code = p.blt.code }) i j
+    (value_in p.blt p.host p.mono p.bits i j (words (host_byte p.host i j / 4)))
 
 -- its pixel at column i of row j in the colour of a tile, n pixels of a row, and n pixels from number k
 abbrev pub tiled_at : List (List ℕ) → (row column : ℕ) → Picture → (ℕ → ℕ) → (i j : ℕ) → List ℕ → List ℕ
 tiled_at tile row column p words i j =
-    host_at Absent [] (with_color p.blt (color_in tile p.blt.destination row column i j)) p.host p.mono p.bits words i j
+    host_at None [] (with_color p.blt (color_in tile p.blt.destination row column i j)) p.host p.mono p.bits words i j
 
 abbrev pub tiled_row : List (List ℕ) → (row column : ℕ) → Picture → (ℕ → ℕ) → (i j n : ℕ) → List ℕ → List ℕ
 tiled_row tile row column p words i j n = in_order (λ x. tiled_at tile row column p words x j) i n

@@ -1,28 +1,30 @@
 // Host sources: the pixels of a BLT that come through the ring, in the words of data commands. How they lie there, how many of them a
 // data command feeds, and rows and spans of them.
+// `RangedHost h` stands in the contracts: registers that judging refuses give a `Host` without it, so it is no invariant of the type.
 #![tactic(auto)]
 
-ghost use Rattle.std.specs.Prelude.{◌≡◌, true, [], ℕ, ◌+◌, ◌-◌, ◌*◌, ◌%◌, ◌^◌, ◌≤◌, ◌<◌, length, get_or, if◌then◌else◌};
-ghost use Rattle.model.specs.Choice.{◌<?◌};
+ghost use Rattle.std.specs.Prelude.{◌≡◌, true, [], ℕ, ◌+◌, ◌-◌, ◌*◌, ◌%◌, ◌^◌, ◌≤◌, ◌<◌, length, get_or, if◌then◌else◌, Some, None};
 ghost use Rattle.model.specs.Bits.{bit, field};
 ghost use Rattle.model.specs.Formats.{Depth, format_of, depth_of};
 ghost use Rattle.model.specs.Registers.{format_code};
 ghost use Rattle.model.specs.Expansion.{bit_number, expand as expandBit};
-ghost use Rattle.model.specs.BltPixel.{mono_mode};
+ghost use Rattle.model.specs.BltPixel.{mono_mode, tile_from};
 ghost use Rattle.model.specs.Host.{starting_bit, bits_per_pixel, bytes_from, host_of, host_byte, host_word};
 ghost use Rattle.model.specs.Unit.{pixel_count};
-ghost use Rattle.model.specs.declared.ColorPattern.TheVariants.{Absent, Tile};
 ghost use Rattle.model.specs.declared.Primitive.TheVariants.{Blt as BltPrimitive};
-ghost use Rattle.model.specs.declared.SourceValue.TheVariants.{Value};
 ghost use Rattle.laws.specs.Host.{RangedHost, columns_in, pixels_in};
 ghost use Rattle.laws.specs.Moves.{Laid};
-ghost use Rattle.laws.specs.Pictures.{stream_word, host_at, host_row, host_pixels, word_bytes};
-ghost use Rattle.host.specs.Pictures.{picture_of, picture_with, PixelFed, RowFed, BandFed, Copied, tiled_row, tiled_pixels, drawn_from};
+ghost use Rattle.laws.specs.Ranges.{FitPattern};
+ghost use Rattle.laws.specs.Rows.{PixelOf};
+ghost use Rattle.laws.specs.Pictures.{stream_word, host_at, host_pixels, length_from, word_bytes};
+ghost use Rattle.host.specs.Pictures.{picture_of, patterned_at, tiled_at, Ranged, Held, BandFed, Copied, drawn_from};
 
+use bands::RowPainter;
 use model::{
-    BLT_MODE, Blt, CH3_OFFSET, DST_OFFSET, Host, MonoSource, RASTER_MODE, REGISTERS, SRC_OFFSET,
-    SourceValue, TABLE, WID_HEIGHT,
+    BLT_MODE, Blt, Host, MonoSource, Pattern, RASTER_MODE, REGISTERS, SRC_OFFSET, TABLE, WID_HEIGHT,
 };
+use pixel::Pixel;
+use tiles::Tile;
 
 // ---- where the pixels lie
 
@@ -39,9 +41,10 @@ fn starting_bit(registers: [u32; REGISTERS], mono: bool) -> usize
     ensures { (result ≡ starting_bit registers) × (result < 8) }
 {
     if mono {
-        return fields::number(registers[SRC_OFFSET], 28, 26);
+        fields::number(registers[SRC_OFFSET], 28, 26)
+    } else {
+        0
     }
-    0
 }
 
 // Bits a pixel.
@@ -49,13 +52,11 @@ fn bits_per_pixel(registers: [u32; REGISTERS], mono: bool) -> usize
     requires { mono ≡ mono_mode registers }
     ensures { (result ≡ bits_per_pixel registers) × (result ≤ 32) }
 {
-    if mono {
-        return 1;
-    }
-    8 * depth_of(registers)
+    if mono { 1 } else { 8 * depth_of(registers) }
 }
 
 // How a BLT's pixels lie in its data words.
+#[tactic(auto, unfolding(model::specs::Host::host_of))]
 pub fn host_of(registers: [u32; REGISTERS]) -> Host
     ensures { result ≡ host_of registers }
 {
@@ -65,17 +66,14 @@ pub fn host_of(registers: [u32; REGISTERS]) -> Host
     let bits = bits_per_pixel(registers, mono);
     let width = fields::number(registers[WID_HEIGHT], 27, 16);
     let row = (skip + width * bits + 7) / 8;
-    if fields::bits(registers[BLT_MODE], 7, 6) == 0b10 {
-        return Host {
-            first,
-            stride: row,
-            skip,
-            bits,
-        };
-    }
+    let stride = if fields::bits(registers[BLT_MODE], 7, 6) == 0b10 {
+        row
+    } else {
+        (first + row + 3) / 4 * 4
+    };
     Host {
         first,
-        stride: (first + row + 3) / 4 * 4,
+        stride,
         skip,
         bits,
     }
@@ -102,33 +100,14 @@ pub fn word_of(registers: [u32; REGISTERS], k: usize) -> usize
 
 // ---- how many pixels a data command feeds
 
-// The difference, or 0.
-fn less(a: usize, b: usize) -> usize
-    ensures { (result ≡ a - b) × (result ≤ a) }
-{
-    if a < b {
-        return 0;
-    }
-    a - b
-}
-
-// The lesser.
-fn least(a: usize, b: usize) -> usize
-    ensures { (result ≤ a) × (result ≤ b) × (result ≡ (if a <? b then a else b)) }
-{
-    if a < b {
-        return a;
-    }
-    b
-}
-
 // Of a row of `width` pixels, how many begin in its first `bytes` bytes.
+#[tactic(auto, unfolding(laws::specs::Host::columns_in))]
 fn columns_in(h: Host, width: usize, bytes: usize) -> usize
     requires { (RangedHost h) × (bytes < 2 ^ 48) }
     ensures { (result ≡ columns_in h width bytes) × (result ≤ width) }
 {
-    let n = (less(8 * bytes, h.skip) + h.bits - 1) / h.bits;
-    least(width, n)
+    let n = ((8 * bytes).saturating_sub(h.skip) + h.bits - 1) / h.bits;
+    width.min(n)
 }
 
 // Of all rows, how many begin in the first `bytes` bytes of all words.
@@ -136,7 +115,7 @@ fn pixels_in(h: Host, width: usize, bytes: usize) -> usize
     requires { (RangedHost h) × (0 < h.stride) × (width < 4096) × (bytes < 2 ^ 48) }
     ensures { result ≡ pixels_in h width bytes }
 {
-    let rest = less(bytes, h.first);
+    let rest = bytes.saturating_sub(h.first);
     let rows = rest / h.stride;
     rows * width + columns_in(h, width, rest % h.stride)
 }
@@ -149,12 +128,13 @@ pub fn span(registers: [u32; REGISTERS], k: usize, word: usize, left: u32) -> u3
     let width = fields::number(registers[WID_HEIGHT], 27, 16);
     let height = fields::number(registers[WID_HEIGHT], 11, 0);
     let there = pixels_in(host_of(registers), width, 4 * word);
-    let end = least(width * height, there);
-    let rest = less(end, k);
+    let end = there.min(width * height);
+    let rest = end.saturating_sub(k);
     if rest < 2 {
-        return 1;
+        1
+    } else {
+        rest.min(left as usize) as u32
     }
-    least(rest, left as usize) as u32
 }
 
 // How many of n pixels from k on are of the row that pixel k is in.
@@ -163,9 +143,10 @@ pub fn row_rest(registers: [u32; REGISTERS], k: usize, n: usize) -> usize
 {
     let width = fields::number(registers[WID_HEIGHT], 27, 16);
     if width == 0 {
-        return n;
+        n
+    } else {
+        n.min(width - k % width)
     }
-    least(n, width - k % width)
 }
 
 // ---- pixels
@@ -180,11 +161,12 @@ pub struct Picture {
     pub bits: MonoSource,
 }
 
+#[tactic(auto, unfolding(crate::specs::Pictures::picture_of))]
 fn picture_of(registers: [u32; REGISTERS]) -> Picture
     ensures { result ≡ picture_of registers }
 {
     Picture {
-        blt: blt::host_blt_of(registers),
+        blt: blt::blt_of(registers),
         host: host_of(registers),
         mono: blt::is_mono(registers),
         bits: blt::mono_source_of(registers),
@@ -192,102 +174,104 @@ fn picture_of(registers: [u32; REGISTERS]) -> Picture
 }
 
 // What a word gives the pixel of column i that begins in its byte n.
-fn value_of(p: Picture, depth: usize, word: u32, n: usize, i: usize) -> SourceValue
-    requires { (Depth depth) × (n < 4) × (p.bits.skip < 8) × (i < 4096) }
-    ensures { result ≡ (if p.mono then expandBit p.bits (bit (bytes_from 1 word n) (bit_number p.bits.skip i)) else Value (bytes_from depth word n)) }
+fn value_of(p: &Picture, depth: usize, word: u32, n: usize, i: usize) -> Option<u32>
+    requires { (Depth depth) × (n < 4) × (p.now.bits.skip < 8) × (i < 4096) }
+    ensures { result ≡ (if p.now.mono then expandBit p.now.bits (bit (bytes_from 1 word n) (bit_number p.now.bits.skip i)) else Some (bytes_from depth word n)) }
 {
     let lower = word >> (8 * n);
-    let mono = p.mono;
-    if mono {
-        let m = p.bits;
-        let x = m.skip + i;
+    if p.mono {
+        let x = p.bits.skip + i;
         let byte = lower % 256;
-        return operands::expand(m, (byte >> (7 - x % 8)) % 2);
-    }
-    SourceValue::Value(tiles::low_bytes(lower, depth))
-}
-
-// Draws the pixel at column i of row j. The data command is at `read`, and `before` words came before its own.
-fn one(f: &mut [u8], ring: &[u32], p: Picture, read: usize, before: usize, i: usize, j: usize)
-    requires { (PixelFed (length f.old) (length ring.now) p before i j) × (read < length ring.now) }
-    ensures { f.new ≡ host_at Absent [] p.blt p.host p.mono p.bits (stream_word ring.now read before) i j f.old }
-{
-    let at = byte_of(p.host, i, j);
-    let word = ring::word_at(ring, read, 2 + (at / 4 - before));
-    let b = p.blt;
-    let d = b.destination;
-    let value = value_of(p, d.depth, word, at % 4, i);
-    let pattern = b.pattern;
-    let o = operands::with_source(pattern, d, i, j, value);
-    let to = rectangle::pixel_byte(d, i, j);
-    operands::draw(f, d.depth, b.code, to, o);
-}
-
-// ---- rows: n pixels of row j, from column i
-
-// Any code and pattern.
-fn general(
-    f: &mut [u8],
-    ring: &[u32],
-    p: Picture,
-    read: usize,
-    before: usize,
-    i: usize,
-    j: usize,
-    n: usize,
-)
-    requires { (RowFed (length f.old) (length ring.now) p before i j n) × (read < length ring.now) }
-    ensures { f.new ≡ host_row Absent [] p.blt p.host p.mono p.bits (stream_word ring.now read before) i j n f.old }
-{
-    let mut m = 0;
-    while m < n {
-        one(f, ring, p, read, before, i + m, j);
-        m += 1;
+        operands::expand(p.bits, (byte >> (7 - x % 8)) % 2)
+    } else {
+        Some(tiles::low_bytes(lower, depth))
     }
 }
 
-// The picture with a solid pattern in place of its pattern.
-fn with_color(p: Picture, color: u32) -> Picture
-    ensures { result ≡ picture_with p color }
-{
-    let b = p.blt;
-    let blt = tiles::with_color(b, color);
-    let host = p.host;
-    let bits = p.bits;
-    Picture {
-        blt,
-        host,
-        mono: p.mono,
-        bits,
+// A picture and what feeds it: the data command at `read`, before whose own words `before` words came.
+#[derive(Clone, Copy)]
+pub struct HostRows<'a> {
+    pub ring: &'a [u32],
+    pub picture: Picture,
+    pub read: usize,
+    pub before: usize,
+    pub ghost within: { read < length ring.now },
+    pub ghost ranged: { Ranged picture },
+}
+
+impl<'a> HostRows<'a> {
+    // Draws the pixel at column i of row j with this pattern in place of the picture's.
+    fn draw_pixel(&self, f: &mut [u8], pattern: Pattern, i: usize, j: usize)
+        requires pixel { PixelOf (length f.old) self.now.picture.blt i j }
+        requires fit { FitPattern pattern }
+        requires held { Held (length self.now.ring.now) self.now.picture.host self.now.before i j }
+        ensures { f.new ≡ patterned_at pattern self.now.picture (stream_word self.now.ring.now self.now.read self.now.before) i j f.old }
+    {
+        let at = byte_of(self.picture.host, i, j);
+        let word = ring::word_at(self.ring, self.read, 2 + (at / 4 - self.before));
+        let d = self.picture.blt.destination;
+        let value = value_of(&self.picture, d.depth, word, at % 4, i);
+        let o = operands::with_source(pattern, d, i, j, value);
+        operands::draw(
+            f,
+            d.depth,
+            self.picture.blt.code,
+            rectangle::pixel_byte(d, i, j),
+            o,
+        );
     }
 }
 
-// A colour pattern: each pixel is one of a solid pattern.
-fn colors(
-    f: &mut [u8],
-    ring: &[u32],
-    p: Picture,
-    tile: &[[u32; 8]; 8],
-    row: usize,
-    column: usize,
-    read: usize,
-    before: usize,
-    i: usize,
-    j: usize,
-    n: usize,
-)
-    requires { (RowFed (length f.old) (length ring.now) p before i j n) × (read < length ring.now) × (row < 8) × (column < 8) }
-    ensures { f.new ≡ tiled_row tile.now row column p (stream_word ring.now read before) i j n f.old }
-{
-    let mut m = 0;
-    while m < n {
-        let x = i + m;
-        let b = p.blt;
-        let d = b.destination;
-        let color = tiles::color_at(tile, d, row, column, x, j);
-        one(f, ring, with_color(p, color), read, before, x, j);
-        m += 1;
+// ---- rows of any code and pattern
+
+impl<'a> RowPainter for HostRows<'a> {
+    ghost blt = { λ s. s.picture.blt };
+
+    ghost pixel = { λ s. host_at None [] s.picture.blt s.picture.host s.picture.mono s.picture.bits (stream_word s.ring.now s.read s.before) };
+
+    ghost asks = { λ s. Held (length s.ring.now) s.picture.host s.before };
+
+    fn width(&self) -> usize {
+        self.picture.blt.destination.columns.count
     }
+
+    fn paint(&self, f: &mut [u8], i: usize, j: usize, n: usize) {
+        for m in 0..n {
+            self.draw_pixel(f, self.picture.blt.pattern, i + m, j);
+        }
+    }
+
+    ghost keeps = { λ s i j. length_from _ i j _ };
+}
+
+// ---- rows of a colour pattern: each pixel is one of a solid pattern
+
+#[derive(Clone, Copy)]
+pub struct HostTileRows<'a> {
+    pub rows: &'a HostRows<'a>,
+    pub tile: &'a Tile,
+}
+
+impl<'a> RowPainter for HostTileRows<'a> {
+    ghost blt = { λ s. s.rows.now.picture.blt };
+
+    ghost pixel = { λ s. tiled_at s.tile.now.colors s.tile.now.row s.tile.now.column s.rows.now.picture (stream_word s.rows.now.ring.now s.rows.now.read s.rows.now.before) };
+
+    ghost asks = { λ s. Held (length s.rows.now.ring.now) s.rows.now.picture.host s.rows.now.before };
+
+    fn width(&self) -> usize {
+        self.rows.picture.blt.destination.columns.count
+    }
+
+    fn paint(&self, f: &mut [u8], i: usize, j: usize, n: usize) {
+        let d = self.rows.picture.blt.destination;
+        for m in 0..n {
+            let color = self.tile.color_at(d, i + m, j);
+            self.rows.draw_pixel(f, Pattern::Solid(color), i + m, j);
+        }
+    }
+
+    ghost keeps = { λ s i j. length_from _ i j _ };
 }
 
 // ---- rows that are copied out of the ring: raster operation CCh
@@ -306,10 +290,8 @@ fn lay_bytes(ring: &[u32], from: usize, t: &mut [u8], to: usize, a: usize, e: us
     requires { (a ≤ e) × (from + e ≤ 4 * length ring.now) × (to + e ≤ length t.old) }
     ensures { Laid (word_bytes ring.now) from to a e t.old t.new }
 {
-    let mut i = a;
-    while i < e {
+    for i in a..e {
         t[to + i] = byte_in(ring, from + i);
-        i += 1;
     }
 }
 
@@ -320,10 +302,8 @@ fn lay_fours(ring: &[u32], from: usize, t: &mut [u8], to: usize, a: usize, n: us
 {
     let first = (from + a) / 4;
     let at = to + a;
-    let mut i = 0;
-    while i < n {
-        pixel::put4(t, at + 4 * i, ring[first + i]);
-        i += 1;
+    for i in 0..n {
+        ring[first + i].store(t, at + 4 * i);
     }
 }
 
@@ -332,7 +312,7 @@ fn lay(ring: &[u32], from: usize, t: &mut [u8], to: usize, n: usize)
     requires { (from + n ≤ 4 * length ring.now) × (to + n ≤ length t.old) }
     ensures { Laid (word_bytes ring.now) from to 0 n t.old t.new }
 {
-    let head = least(n, (4 - from % 4) % 4);
+    let head = n.min((4 - from % 4) % 4);
     let fours = (n - head) / 4;
     lay_bytes(ring, from, t, to, 0, head);
     lay_fours(ring, from, t, to, head, fours);
@@ -340,160 +320,77 @@ fn lay(ring: &[u32], from: usize, t: &mut [u8], to: usize, n: usize)
 }
 
 // Whether each pixel gets its source as it is, one beside the other.
-fn is_copied(p: Picture) -> bool
-    ensures { result ≡ true → Copied p }
+fn is_copied(p: &Picture) -> bool
+    ensures { result ≡ true → Copied p.now }
 {
-    let b = p.blt;
-    if b.code != 0xCC {
-        return false;
-    }
-    let mono = p.mono;
-    if mono {
-        return false;
-    }
-    let d = b.destination;
-    let columns = d.columns;
-    let negative = columns.negative;
-    if negative {
-        return false;
-    }
-    let pattern = b.pattern;
-    blt::is_full(pattern)
+    p.blt.code == 0xCC
+        && !p.mono
+        && !p.blt.destination.columns.negative
+        && blt::is_full(p.blt.pattern)
 }
 
-// Such a row: its bytes at once, unless its words run across the ring's end.
-fn copy(
-    f: &mut [u8],
-    ring: &[u32],
-    p: Picture,
-    read: usize,
-    before: usize,
-    i: usize,
-    j: usize,
-    n: usize,
-)
-    requires { (RowFed (length f.old) (length ring.now) p before i j n) × (read < length ring.now) × (0 < n) × (Copied p) }
-    ensures { f.new ≡ host_row Absent [] p.blt p.host p.mono p.bits (stream_word ring.now read before) i j n f.old }
-{
-    let at = byte_of(p.host, i, j);
-    let size = ring.len();
-    let place = command::ahead(size, read, 2 + (at / 4 - before));
-    let from = 4 * place + at % 4;
-    let b = p.blt;
-    let d = b.destination;
-    let bytes = n * d.depth;
-    if 4 * size < from + bytes {
-        general(f, ring, p, read, before, i, j, n);
-        return;
-    }
-    let to = rectangle::low_byte(d, i, j, n);
-    lay(ring, from, f, to, bytes);
+#[derive(Clone, Copy)]
+pub struct HostCopyRows<'a> {
+    pub rows: &'a HostRows<'a>,
+    pub ghost copied: { Copied rows.now.picture },
 }
 
-// ---- spans: n pixels from pixel k, row by row
+impl<'a> RowPainter for HostCopyRows<'a> {
+    ghost blt = { λ s. s.rows.now.picture.blt };
 
-// Rows that are copied.
-fn draw_copied(
-    f: &mut [u8],
-    ring: &[u32],
-    p: Picture,
-    read: usize,
-    before: usize,
-    k: usize,
-    n: usize,
-)
-    requires { (BandFed (length f.old) (length ring.now) p before k n) × (read < length ring.now) × (Copied p) }
-    ensures { f.new ≡ host_pixels Absent [] p.blt p.host p.mono p.bits (stream_word ring.now read before) k n f.old }
-{
-    let b = p.blt;
-    let d = b.destination;
-    let columns = d.columns;
-    let width = columns.count;
-    let mut w = bands::begin(k, width);
-    while w.drawn < n {
-        let c = bands::part(w, width, n);
-        copy(f, ring, p, read, before, w.column, w.row, c);
-        w = bands::on(w, c);
+    ghost pixel = { λ s. host_at None [] s.rows.now.picture.blt s.rows.now.picture.host s.rows.now.picture.mono s.rows.now.picture.bits (stream_word s.rows.now.ring.now s.rows.now.read s.rows.now.before) };
+
+    ghost asks = { λ s. Held (length s.rows.now.ring.now) s.rows.now.picture.host s.rows.now.before };
+
+    fn width(&self) -> usize {
+        self.rows.picture.blt.destination.columns.count
     }
+
+    // The bytes of a row at once, unless its words run across the ring's end.
+    fn paint(&self, f: &mut [u8], i: usize, j: usize, n: usize) {
+        let rows = self.rows;
+        let at = byte_of(rows.picture.host, i, j);
+        let size = rows.ring.len();
+        let place = command::ahead(size, rows.read, 2 + (at / 4 - rows.before));
+        let from = 4 * place + at % 4;
+        let d = rows.picture.blt.destination;
+        let bytes = n * d.depth;
+        if from + bytes <= 4 * size {
+            lay(rows.ring, from, f, rectangle::low_byte(d, i, j, n), bytes);
+        } else {
+            rows.paint(f, i, j, n);
+        }
+    }
+
+    ghost keeps = { λ s i j. length_from _ i j _ };
 }
 
-// Any code and pattern.
-fn draw_general(
-    f: &mut [u8],
-    ring: &[u32],
-    p: Picture,
-    read: usize,
-    before: usize,
-    k: usize,
-    n: usize,
-)
-    requires { (BandFed (length f.old) (length ring.now) p before k n) × (read < length ring.now) }
-    ensures { f.new ≡ host_pixels Absent [] p.blt p.host p.mono p.bits (stream_word ring.now read before) k n f.old }
+// ---- spans: n pixels from pixel k
+
+// With the tile that stands in the lookup table; `origin` is the offset register whose low bits say where in the tile the first pixel
+// lies.
+fn draw_colors(f: &mut [u8], rows: &HostRows, table: &[u32; TABLE], origin: u32, k: usize, n: usize)
+    requires { BandFed (length f.old) (length rows.now.ring.now) rows.now.picture rows.now.before k n }
+    ensures { f.new ≡ host_pixels (tile_from (field origin 31 29) (field origin 28 26)) table.now rows.now.picture.blt rows.now.picture.host rows.now.picture.mono rows.now.picture.bits (stream_word rows.now.ring.now rows.now.read rows.now.before) k n f.old }
 {
-    let b = p.blt;
-    let d = b.destination;
-    let columns = d.columns;
-    let width = columns.count;
-    let mut w = bands::begin(k, width);
-    while w.drawn < n {
-        let c = bands::part(w, width, n);
-        general(f, ring, p, read, before, w.column, w.row, c);
-        w = bands::on(w, c);
-    }
+    let tile = Tile {
+        colors: tiles::tile_of(table, rows.picture.blt.destination.depth),
+        row: fields::number(origin, 31, 29),
+        column: fields::number(origin, 28, 26),
+    };
+    bands::paint(f, &HostTileRows { rows, tile: &tile }, k, n);
 }
 
-// A colour pattern.
-fn draw_tile(
-    f: &mut [u8],
-    ring: &[u32],
-    p: Picture,
-    tile: &[[u32; 8]; 8],
-    row: usize,
-    column: usize,
-    read: usize,
-    before: usize,
-    k: usize,
-    n: usize,
-)
-    requires { (BandFed (length f.old) (length ring.now) p before k n) × (read < length ring.now) × (row < 8) × (column < 8) }
-    ensures { f.new ≡ tiled_pixels tile.now row column p (stream_word ring.now read before) k n f.old }
+// Without one.
+fn draw_plain(f: &mut [u8], rows: &HostRows, k: usize, n: usize)
+    requires { BandFed (length f.old) (length rows.now.ring.now) rows.now.picture rows.now.before k n }
+    ensures { f.new ≡ host_pixels None [] rows.now.picture.blt rows.now.picture.host rows.now.picture.mono rows.now.picture.bits (stream_word rows.now.ring.now rows.now.read rows.now.before) k n f.old }
 {
-    let b = p.blt;
-    let d = b.destination;
-    let columns = d.columns;
-    let width = columns.count;
-    let mut w = bands::begin(k, width);
-    while w.drawn < n {
-        let c = bands::part(w, width, n);
-        colors(
-            f, ring, p, tile, row, column, read, before, w.column, w.row, c,
-        );
-        w = bands::on(w, c);
+    if is_copied(&rows.picture) {
+        bands::paint(f, &HostCopyRows { rows }, k, n);
+    } else {
+        bands::paint(f, rows, k, n);
     }
-}
-
-// A colour pattern whose tile stands in the lookup table; `origin` is the offset register whose low bits say where in the tile the first
-// pixel lies.
-fn draw_colors(
-    f: &mut [u8],
-    ring: &[u32],
-    p: Picture,
-    table: &[u32; TABLE],
-    origin: u32,
-    read: usize,
-    before: usize,
-    k: usize,
-    n: usize,
-)
-    requires { (BandFed (length f.old) (length ring.now) p before k n) × (read < length ring.now) }
-    ensures { f.new ≡ host_pixels (Tile (field origin 31 29) (field origin 28 26)) table.now p.blt p.host p.mono p.bits (stream_word ring.now read before) k n f.old }
-{
-    let b = p.blt;
-    let d = b.destination;
-    let tile = tiles::tile_of(table, d.depth);
-    let row = fields::number(origin, 31, 29);
-    let column = fields::number(origin, 28, 26);
-    draw_tile(f, ring, p, &tile, row, column, read, before, k, n);
 }
 
 // Draws n pixels of a BLT that judging accepts, from pixel k, by the words of the data command at `read`, before whose own `before`
@@ -514,21 +411,14 @@ pub fn draw(
     if n == 0 {
         return;
     }
-    let p = picture_of(registers);
-    let channel3 = blt::is_channel3(registers);
-    if channel3 {
-        draw_colors(f, ring, p, table, registers[CH3_OFFSET], read, before, k, n);
-        return;
+    let rows = HostRows {
+        ring,
+        picture: picture_of(registers),
+        read,
+        before,
+    };
+    match blt::tile_origin(registers) {
+        Some(origin) => draw_colors(f, &rows, table, origin, k, n),
+        None => draw_plain(f, &rows, k, n),
     }
-    let tiled = blt::is_tiled(registers);
-    if tiled {
-        draw_colors(f, ring, p, table, registers[DST_OFFSET], read, before, k, n);
-        return;
-    }
-    let copied = is_copied(p);
-    if copied {
-        draw_copied(f, ring, p, read, before, k, n);
-        return;
-    }
-    draw_general(f, ring, p, read, before, k, n);
 }

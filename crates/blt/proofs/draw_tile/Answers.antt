@@ -1,6 +1,9 @@
 use mathlib.Core.Path.{sym, ◌∙◌}
-use Rattle.laws.specs.Plain.{plain}
+use Rattle.blt.proofs.Serving.{serves_some, serves_fill}
 use Rattle.blt.proofs.draw_tile.Goals as goal
 
-pub tile_fill-requires : goal.tile_fill-requires
-tile_fill-requires c = (c.requires.0, c.requires.1, c.requires.2, c.if-b-eq240.true, (_, plain _ c.args.b.source (sym c.is_plain-plain.ensures ∙ c.if-plain.true)))
+pub invariant_of-paint : goal.invariant_of-paint
+invariant_of-paint c = record {
+  code = c.if-b-eq240.true;
+  plain = serves_fill _ _ c.if-b-eq240.true (serves_some _ _ c.plain_value.ensures (sym c.is_some.ensures ∙ c.if-is_some.true));
+}

@@ -1,4 +1,4 @@
-use Rattle.host.proofs.Parts.{area_wide, stride_some, words_feed, least_some}
+use Rattle.host.proofs.Parts.{area_wide, stride_some, words_feed}
 use Rattle.laws.specs.Host.{ranged_host, pixels_in}
 use Rattle.model.specs.declared.Primitive.TheVariants.{Blt}
 use Rattle.model.specs.Unit.{pixel_count}
@@ -23,13 +23,13 @@ overflow_mul-width c = let p : c.number-width.result * c.number-height.result �
 pub returns-then-rest-lt2 : goal.returns-then-rest-lt2
 returns-then-rest-lt2 c = (omega arith, omega arith, omega arith, λ x l. let z : c.args.k + x ≡ c.args.k = omega arith in rw z c.requires.2)
 
-pub returns : goal.returns
+pub returns-else-rest-lt2 : goal.returns-else-rest-lt2
 unfolding pixel_count blt_of rectangle_of
-returns c = let wide : 0 < width c.args.registers = area_wide _ _ _ c.requires.1 in
+returns-else-rest-lt2 c = let wide : 0 < width c.args.registers = area_wide _ _ _ c.requires.1 in
     let all : c.number-width.result * c.number-height.result ≡ pixel_count Blt c.args.registers = rw (c.number-width.ensures.0, c.number-height.ensures.0) in
     let there : c.pixels_in-there.result ≡ pixels_in (host_of c.args.registers) (width c.args.registers) (4 * c.args.word) = c.pixels_in-there.ensures ∙ rw (c.host_of.ensures, c.number-width.ensures.0) in (
-      rw c.least.ensures.2 (least_some c.less-rest.result c.args.left (omega arith) (omega arith)),
-      omega (arith, c.least.ensures.1),
-      omega (arith, c.least.ensures.0, c.least-end.ensures.0, c.less-rest.ensures.0),
-      λ x l. words_feed c.args.registers c.requires.0 wide c.args.word (c.args.k + x) (omega (arith, c.least.ensures.0, c.least-end.ensures.1, c.less-rest.ensures.0)),
+      omega arith,
+      omega arith,
+      omega arith,
+      λ x l. words_feed c.args.registers c.requires.0 wide c.args.word (c.args.k + x) (omega arith),
     )

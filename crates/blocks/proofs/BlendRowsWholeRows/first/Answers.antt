@@ -1,0 +1,5 @@
+use Rattle.blocks.proofs.Parts.{asked_low}
+use Rattle.blocks.proofs.BlendRowsWholeRows.first.Goals as goal
+
+pub low_byte-requires : goal.low_byte-requires
+low_byte-requires c = rw c.width.ensures (asked_low c.requires.1)

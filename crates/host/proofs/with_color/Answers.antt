@@ -1,4 +1,0 @@
-use Rattle.host.proofs.with_color.Goals as goal
-
-pub returns : goal.returns
-returns c = rw c.with_color-blt.ensures
