@@ -1,18 +1,15 @@
--- Calls written as numbers.
-use Rattle.std.specs.Prelude.{ℕ, zero, suc, ◌+◌, List, [], ◌∷◌, get_or, if◌then◌else◌}
-use Rattle.model.specs.Choice.{◌=?◌}
-use Rattle.model.specs.Course.{Call, publishing, running, asking, restarting}
+-- The calls as document 01's plain course has them, and what is handed on from call to call.
+use Rattle.std.specs.Prelude.{ℕ, List}
+use Rattle.model.specs.Course.{Call, publishing, running, asking, restarting, Configuration}
+use Rattle.drive.specs.declared.Call.{Call as DrivenCall}
+use Rattle.drive.specs.declared.Call.TheVariants.{Publish, Run, Room, Restart}
+use Rattle.drive.specs.declared.Driven.{Driven}
 
--- 0 publishes the position, 1 runs with the budget, 2 asks for the room, any other restarts
-abbrev pub call_of : ℕ → ℕ → ℕ → Call
-call_of kind position budget =
-    if kind =? 0 then publishing position
-    else if kind =? 1 then running budget
-    else if kind =? 2 then asking
-    else restarting
+abbrev pub call_of : DrivenCall → Call
+call_of (Publish position) = publishing position
+call_of (Run budget) = running budget
+call_of Room = asking
+call_of Restart = restarting
 
--- n calls from number i on
-unfoldable pub calls_of : List ℕ → List ℕ → List ℕ → ℕ → ℕ → List Call
-calls_of kinds positions budgets zero i = []
-calls_of kinds positions budgets (suc n) i =
-    call_of (get_or kinds i 0) (get_or positions i 0) (get_or budgets i 0) ∷ calls_of kinds positions budgets n (i + 1)
+abbrev pub configuration : Driven → List ℕ → Configuration
+configuration driven frame = record { state = driven.state; frame = frame; sum = driven.sum }

@@ -1,6 +1,6 @@
 -- The load of a whole command, by what it draws.
 use Rattle.std.proofs.Common.{◌≡◌, ℕ, Bool, true, false, List, sym, refl, ap, ◌∙◌, arith, eq-eqb, ne_eqb, eqb-true}
-use Rattle.std.specs.Prelude.{if◌then◌else◌}
+use Rattle.std.specs.Prelude.{if◌then◌else◌, Some, None}
 use Rattle.model.specs.Choice.{◌=?◌}
 use Rattle.model.proofs.Choice.{not_both, if_both}
 use Rattle.model.specs.Refusals.{first}
@@ -10,14 +10,25 @@ use Rattle.model.specs.Command.{kind_of, is_data}
 use Rattle.model.specs.Host.{host_word}
 use Rattle.model.specs.Unit.{wants, pixels_drawn, header_at, loaded_at, command_refusal, ready, stopped, place_after, loaded_core, taken_core, table_after}
 use Rattle.model.specs.declared.Core.{Core}
-use Rattle.model.specs.declared.Drawn.TheVariants.{Nothing, Draws}
 use Rattle.model.specs.declared.Kind.TheVariants.{Table, Data}
 use Rattle.model.specs.declared.Place.{Place}
 use Rattle.model.specs.declared.Place.TheVariants.{Idle, Fed}
 use Rattle.model.specs.declared.Primitive.{Primitive}
 use Rattle.laws.specs.Fit.{accepted_header}
 use Rattle.command.specs.Look.{plain_table, taken_wanted}
-use Rattle.units.specs.Turns.{Loadable, Fillable, Acceptable, load_unit, table_unit, moved_core, command_table}
+use Rattle.units.specs.Turns.{Loadable, Fillable, Acceptable, load_unit, table_unit, command_table}
+
+-- a core with other registers, read pointer, completion number and place
+abbrev pub moved_core : Core → List ℕ → ℕ → ℕ → Place → Core
+moved_core c registers read completion place = record {
+  registers = registers;
+  read = read;
+  ringlength = c.ringlength;
+  framelength = c.framelength;
+  completion = completion;
+  stop = c.stop;
+  place = place;
+}
 
 module _ (ring : List ℕ) (c : Core) where
   pub refuses : {number : ℕ} → command_refusal ring c ≡ number → (number ≡ 0 → ⊥) → stopped c number ≡ load_unit ring c
@@ -64,34 +75,33 @@ module _ (ring : List ℕ) (c : Core) where
   pub takes_data_holds : {count before : ℕ} {w : Bool} → Acceptable ring c count w → before ≡ host_word c.registers (pixels_drawn c.place)
       → moved_core c c.registers c.read c.completion (Fed (pixels_drawn c.place) (record { before = before; count = count; returns = w }))
       ≡ load_unit ring c
-  unfolding load_unit taken_core moved_core
+  unfolding load_unit taken_core
   takes_data_holds h e =
       let d : is_data (kind_of (header_at ring c)) ≡ true = ap is_data h.kind_is in
       rw (eq-eqb _ _ h.accepted, d, e, h.count_is, h.returns_is)
 
   -- the registers as they are after loading
   module _ {header next : ℕ} {registers : List ℕ} (loads : registers ≡ loaded_at ring c) where
-    pub load_nothing : Loadable ring c header Nothing next
+    pub load_nothing : Loadable ring c header None next
         → moved_core c registers next (retired c.completion) Idle ≡ load_unit ring c
-    unfolding loaded_core moved_core first
+    unfolding loaded_core first
     load_nothing h = rw loads (rw (h.drawn_is, h.next_is) at (accepts h.refusal_is h.no_data))
 
     pub load_fills : {count : ℕ} → Fillable ring c header count next
         → moved_core c registers next (retired c.completion) Idle ≡ load_unit ring c
-    unfolding loaded_core moved_core
+    unfolding loaded_core
     load_fills h = rw loads (rw (h.drawn_is, h.next_is) at (accepts h.accepted (ap is_data h.kind_is)))
 
-    -- the number that judging gives on them
-    module _ {primitive : Primitive} {no : ℕ} (h : Loadable ring c header (Draws primitive) next)
-        (judges : no ≡ judge primitive registers c.framelength) where
-      refusal : command_refusal ring c ≡ no
+    -- what judging says of them
+    module _ {primitive : Primitive} (h : Loadable ring c header (Some primitive) next) where
+      refusal : command_refusal ring c ≡ judge primitive registers c.framelength
       unfolding judge
-      refusal = h.refusal_is ∙ sym (rw loads at judges)
+      refusal = rw loads h.refusal_is
 
-      pub load_refuses : (no ≡ 0 → ⊥) → stopped c no ≡ load_unit ring c
-      load_refuses z = refuses refusal z
+      pub load_refuses : {number : ℕ} → number ≡ judge primitive registers c.framelength → (number ≡ 0 → ⊥) → stopped c number ≡ load_unit ring c
+      load_refuses judges z = refuses (refusal ∙ sym judges) z
 
-      pub load_draws : no ≡ 0 → {place : Place} → place ≡ place_after (Draws primitive) registers
+      pub load_draws : judge primitive registers c.framelength ≡ 0 → {place : Place} → place ≡ place_after (Some primitive) registers
           → moved_core c registers next c.completion place ≡ load_unit ring c
-      unfolding loaded_core moved_core
+      unfolding loaded_core
       load_draws z e = rw (e, loads) (rw (h.drawn_is, h.next_is) at (accepts (refusal ∙ z) h.no_data))

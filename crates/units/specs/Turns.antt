@@ -1,5 +1,5 @@
 -- What the functions of units are handed and answer.
-use Rattle.std.specs.Prelude.{◌≡◌, ℕ, ◌+◌, ◌-◌, ◌<◌, ◌≤◌, Bool, true, false, List, [], length, if◌then◌else◌}
+use Rattle.std.specs.Prelude.{◌≡◌, ℕ, ◌+◌, ◌-◌, ◌<◌, ◌≤◌, Bool, true, false, List, [], length, Option, Some, None, if◌then◌else◌}
 use Rattle.model.specs.Choice.{◌=?◌}
 use Rattle.model.specs.Limits.{ring_least, ring_most, table_length}
 use Rattle.model.specs.Refusals.{first}
@@ -10,9 +10,8 @@ use Rattle.model.specs.Registers.{format_code}
 use Rattle.model.specs.Host.{host_word, draw_host}
 use Rattle.model.specs.Unit.{Machine, pixels_drawn, header_at, counted_at, length_at, returns_at, loaded_at, drawn_rules, command_refusal, ready, stopped, accepted_core, table_after, pixel_count, drawn_core, fed_word, fed_core, possible, units, done}
 use Rattle.model.specs.Calls.{run_word}
+use Rattle.model.specs.Steps.{machine}
 use Rattle.model.specs.declared.Core.{Core}
-use Rattle.model.specs.declared.Drawn.{Drawn}
-use Rattle.model.specs.declared.Drawn.TheVariants.{Nothing}
 use Rattle.model.specs.declared.Feed.{Feed}
 use Rattle.model.specs.declared.Kind.TheVariants.{Table as TableKind, Data as DataKind}
 use Rattle.model.specs.declared.Place.{Place}
@@ -40,7 +39,7 @@ unfoldable pub table_unit : List ℕ → Core → List ℕ → List ℕ
 table_unit ring c table = if command_refusal ring c =? 0 then table_after ring c table else table
 
 -- the whole BLT or vector at the read pointer: its header, what it draws, and where the read pointer stands after it
-pub record Loadable (ring : List ℕ) (c : Core) (header : ℕ) (drawn : Drawn) (next : ℕ) : Type 0 where
+pub record Loadable (ring : List ℕ) (c : Core) (header : ℕ) (drawn : Option Primitive) (next : ℕ) : Type 0 where
   pub ring_least_holds : ring_least ≤ length ring
   pub read_in : c.read < length ring
   pub header_is : header ≡ header_at ring c
@@ -58,7 +57,7 @@ pub record Fillable (ring : List ℕ) (c : Core) (header count next : ℕ) : Typ
   pub kind_is : kind_of (header_at ring c) ≡ TableKind
   pub count_is : count ≡ data_count (count_word TableKind ring c.read)
   pub count_most_holds : count ≤ table_length
-  pub drawn_is : drawn_by (header_at ring c) ≡ Nothing
+  pub drawn_is : drawn_by (header_at ring c) ≡ None
   pub next_is : read_after c.ringlength c.read (length_at ring c) (returns_at ring c) ≡ next
   pub accepted : command_refusal ring c ≡ 0
 
@@ -77,24 +76,9 @@ pub record Feedable (c : Core) (k : ℕ) (feed : Feed) : Type 0 where
   pub read_in : c.read < c.ringlength
   pub length_most : data_length feed.count ≤ c.ringlength
 
--- a core with other registers, read pointer, completion number and place
-unfoldable pub moved_core : Core → List ℕ → ℕ → ℕ → Place → Core
-moved_core c registers read completion place = record {
-  registers = registers;
-  read = read;
-  ringlength = c.ringlength;
-  framelength = c.framelength;
-  completion = completion;
-  stop = c.stop;
-  place = place;
-}
-
-abbrev pub turn : Core → ℕ → Turn
-turn c used = record { core = c; used = used }
-
--- the turn of an engine that draws nothing, and the table after it
-unfoldable pub command_turn : List ℕ → Core → ℕ → Turn
-command_turn ring c write = if ready ring c write then turn (load_unit ring c) 1 else turn c 0
+-- the core after the unit of an engine that draws nothing, if there is one, and the table after it
+unfoldable pub command_core : List ℕ → Core → ℕ → Option Core
+command_core ring c write = if ready ring c write then Some (load_unit ring c) else None
 
 unfoldable pub command_table : List ℕ → Core → ℕ → List ℕ → List ℕ
 command_table ring c write table = if ready ring c write then table_unit ring c table else table
@@ -123,14 +107,24 @@ hosts (Drawing primitive k) = false
 hosts (Wanting k) = true
 hosts (Fed k feed) = true
 
--- none was done, and if the engine is of the sort that was asked for, none could be; or some were, at most `left`, and what is left of
--- the budget goes on from there
-pub data Advanced (Sort : Type 0) (ring : List ℕ) (write : ℕ) (before after : Machine) (left used : ℕ) : Type 0 where
-  none : used ≡ 0 → (Sort → possible ring before.core write ≡ false) → after.table ≡ before.table → after.frame ≡ before.frame
-      → Advanced Sort ring write before after left used
-  some : 0 < used → used ≤ left → WellFormed ring write after → length after.frame ≡ length before.frame
-      → ((u : ℕ) → units ring write left u before ≡ units ring write (left - used) (u + used) after)
-      → Advanced Sort ring write before after left used
+-- nothing is done: if some budget is left and the engine is of the sort that was asked for, no unit is possible
+pub record Rests (Sort : Type 0) (ring : List ℕ) (write : ℕ) (before : Machine) (table frame : List ℕ) (left : ℕ) : Type 0 where
+  pub no_more : 0 < left → Sort → possible ring before.core write ≡ false
+  pub table_kept : table ≡ before.table
+  pub frame_kept : frame ≡ before.frame
+
+-- some units are done, at most `left`, and what is left of the budget goes on from there
+pub record Onward (ring : List ℕ) (write : ℕ) (before after : Machine) (left used : ℕ) : Type 0 where
+  pub some : 0 < used
+  pub most : used ≤ left
+  pub wellformed : WellFormed ring write after
+  pub length_kept : length after.frame ≡ length before.frame
+  pub same : (u : ℕ) → units ring write left u before ≡ units ring write (left - used) (u + used) after
+
+-- no turn, and nothing is done; or one
+abbrev pub Advanced : (Sort : Type 0) → List ℕ → ℕ → (before : Machine) → (table frame : List ℕ) → (left : ℕ) → Option Turn → Type 0
+Advanced Sort ring write before table frame left None = Rests Sort ring write before table frame left
+Advanced Sort ring write before table frame left (Some turn) = Onward ring write before (machine turn.core table frame) left turn.used
 
 -- some of a budget's units are done, and the rest go on from there
 pub record Going (ring : List ℕ) (write : ℕ) (before now : Machine) (budget used : ℕ) : Type 0 where
@@ -145,10 +139,10 @@ pub record Plain (ring : List ℕ) (write : ℕ) (before now : Machine) (budget 
   pub rests : used < budget → hosts now.core.place ≡ false → possible ring now.core write ≡ false
 
 -- none by a BLT that takes data; or some, and then as many as could be without one
-pub data Stepped (ring : List ℕ) (write : ℕ) (before after : Machine) (left used : ℕ) : Type 0 where
-  none : used ≡ 0 → (hosts before.core.place ≡ true → possible ring before.core write ≡ false) → after.table ≡ before.table
-      → after.frame ≡ before.frame → Stepped ring write before after left used
-  some : 0 < used → Plain ring write before after left used → Stepped ring write before after left used
+abbrev pub Stepped : List ℕ → ℕ → (before : Machine) → (table frame : List ℕ) → (left : ℕ) → Option Turn → Type 0
+Stepped ring write before table frame left None = Rests (hosts before.core.place ≡ true) ring write before table frame left
+Stepped ring write before table frame left (Some turn) =
+    (0 < turn.used) × Plain ring write before (machine turn.core table frame) left turn.used
 
 -- all the units of a budget were done, or as many as could be
 pub record Finished (ring : List ℕ) (write : ℕ) (before after : Machine) (budget used : ℕ) : Type 0 where

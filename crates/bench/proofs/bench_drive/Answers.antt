@@ -1,12 +1,9 @@
-use mathlib.Core.Path.{sym, ◌∙◌}
-use Rattle.bench.specs.Lists.{list_serves, drove_none, drove}
+use Rattle.std.proofs.Common.{sym, ◌∙◌}
+use Rattle.bench.specs.Lists.{drove_none, drove}
 use Rattle.bench.proofs.bench_drive.Goals as goal
 
-pub returns-then-not-serves : goal.returns-then-not-serves
-returns-then-not-serves c = drove_none _ _ _ _ _ c.setup-made.result c.setup-made.ensures (sym c.is_list-serves.ensures ∙ c.if-not-serves.true)
+pub returns-then-is_list : goal.returns-then-is_list
+returns-then-is_list c = drove _ _ _ _ _ c.setup.result c.setup.ensures (sym c.is_list.ensures ∙ c.if-is_list.true) _ c.drive_numbers-end.ensures
 
-pub drive-end-requires : goal.drive-end-requires
-drive-end-requires c = list_serves _ _ _ (sym c.is_list-serves.ensures ∙ c.if-not-serves.false)
-
-pub returns : goal.returns
-returns c = drove _ _ _ _ _ c.setup-made.result c.setup-made.ensures (sym c.is_list-serves.ensures ∙ c.if-not-serves.false) _ c.drive-end.ensures
+pub returns-else-is_list : goal.returns-else-is_list
+returns-else-is_list c = drove_none _ _ _ _ _ c.setup.result c.setup.ensures (sym c.is_list.ensures ∙ c.if-is_list.false)

@@ -1,13 +1,11 @@
-use Prim.Native.Nat.{◌-◌, ◌*◌, ◌≤◌}
-use mathlib.Core.Path.{◌≡◌}
-use lib.ListN.{length}
-use Rattle.model.specs.Perform.{start}
-use Rattle.drive.proofs.Lists.{configuration, Going}
+use Rattle.std.proofs.Common.{◌≡◌, ◌*◌, ◌≤◌, length, drop, map}
+use Rattle.model.specs.Perform.{performs, lent}
+use Rattle.drive.specs.Calls.{call_of, configuration}
 use Rattle.drive.proofs.drive.Given as goal
 
-abbrev pub invariant-loop-i : goal.invariant-loop-i
-invariant-loop-i l = (l.i ≤ length l.kinds) × (l.sum ≤ 4294967295 * l.i) × (length l.frame ≡ length l.initial.frame)
-    × Going l.ring l.kinds l.positions l.budgets (start l.initial.t l.initial.frame) l.i (configuration l.t l.frame l.sum)
-
-abbrev pub decreases-loop-i : goal.decreases-loop-i
-decreases-loop-i l = length l.kinds - l.i
+abbrev pub invariant-loop-call : goal.invariant-loop-call
+invariant-loop-call l = record {
+  small : l.driven.sum ≤ 4294967295 * l.call-index;
+  onward : performs (lent l.ring (map call_of l.calls)) (configuration l.initial.driven l.initial.frame)
+      ≡ performs (lent l.ring (map call_of (drop l.call-index l.calls))) (configuration l.driven l.frame);
+}

@@ -1,23 +1,21 @@
-use mathlib.Core.Path.{refl, sym, ◌∙◌}
-use native.Mathlib.Omega.{arith}
-use borrow.Author.Tests.{eq-eqb, ne_eqb}
+use Rattle.std.proofs.Common.{◌∙◌, sym, refl, arith}
 use Rattle.model.specs.Refusals.{positive}
 use Rattle.model.proofs.Refusals.{none_first}
 use Rattle.model.specs.Calls.{publish_rules, publish}
 use Rattle.laws.specs.Modular.{accepted_in}
-use Rattle.laws.specs.Fit.{fit_parts}
+use Rattle.engine.proofs.Checks.{in_ring, answered_ok, answered_err}
 use Rattle.engine.proofs.publish.Goals as goal
 
-pub room_left-left-requires : goal.room_left-left-requires
+pub accepted-requires : goal.accepted-requires
 unfolding positive
-room_left-left-requires c = let h = none_first (publish_rules c.args.s c.args.p) refl (sym c.publish_number-no.ensures ∙ c.if-no-eq0.true) in
-    let f = fit_parts c.args.s h.0 in
-    (f.read_in, omega (arith, f.write_in, (accepted_in _ _ _ _ h.1).0))
+accepted-requires c = let f = in_ring c.args.s _ c.in-Ok.ensures in
+    let h = none_first (publish_rules c.args.s c.args.p) refl (sym c.in-Ok.ensures) in
+    record { read_in = f.read_in; write_in = omega (arith, f.write_in, (accepted_in _ _ _ _ h.1).0) }
 
-pub returns-then-no-eq0 : goal.returns-then-no-eq0
+pub returns-in-Ok : goal.returns-in-Ok
 unfolding publish
-returns-then-no-eq0 c = rw (← c.publish_number-no.ensures, eq-eqb _ _ c.if-no-eq0.true, c.room_left-left.ensures)
+returns-in-Ok c = rw c.accepted.ensures (answered_ok _ _ _ c.in-Ok.ensures)
 
-pub returns : goal.returns
+pub returns-in-Err : goal.returns-in-Err
 unfolding publish
-returns c = rw (← c.publish_number-no.ensures, ne_eqb _ _ c.if-no-eq0.false)
+returns-in-Err c = rw c.refused.ensures (answered_err _ _ _ c.in-Err.refusal c.in-Err.ensures)

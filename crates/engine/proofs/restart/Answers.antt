@@ -1,17 +1,16 @@
-use mathlib.Core.Path.{refl, sym, ◌∙◌}
-use native.Mathlib.Omega.{arith}
-use Rattle.model.specs.Refusals.{positive}
-use Rattle.model.proofs.Refusals.{none_first}
-use Rattle.model.specs.Calls.{restart_rules, restart}
-use Rattle.laws.specs.Fit.{fit_parts}
+use Rattle.std.proofs.Common.{◌∙◌}
+use Rattle.model.specs.Calls.{restart}
+use Rattle.engine.proofs.Checks.{in_ring, answered_ok, answered_err}
 use Rattle.engine.proofs.restart.Goals as goal
 
-pub answer-requires : goal.answer-requires
-unfolding positive
-answer-requires c = λ e.
-    let f = fit_parts c.args.s (none_first (restart_rules c.args.s) refl (sym c.restart_number-no.ensures ∙ e)).0 in
-    record { read_in = omega (arith, f.read_in, f.write_in); write_in = f.write_in }
+pub accepted-requires : goal.accepted-requires
+accepted-requires c = let f = in_ring c.args.s _ c.in-Ok.ensures in
+    record { read_in = f.write_in; write_in = f.write_in }
 
-pub returns : goal.returns
+pub returns-in-Ok : goal.returns-in-Ok
 unfolding restart
-returns c = c.answer.ensures ∙ rw c.restart_number-no.ensures
+returns-in-Ok c = rw c.accepted.ensures (answered_ok _ _ _ c.in-Ok.ensures)
+
+pub returns-in-Err : goal.returns-in-Err
+unfolding restart
+returns-in-Err c = rw c.refused.ensures (answered_err _ _ _ c.in-Err.refusal c.in-Err.ensures)

@@ -1,11 +1,15 @@
+use Rattle.judging.specs.Checks.{refusal_some}
 use Rattle.engine.proofs.Runs.{run_wellformed, run_refused, run_finished}
+use Rattle.std.proofs.Common.{refl, ◌∙◌}
 use Rattle.engine.proofs.run.Goals as goal
 
-pub do_units-t-requires : goal.do_units-t-requires
-do_units-t-requires c = run_wellformed c.args.ring.now c.args.s c.args.frame.now c.args.budget c.run_number-no.ensures c.if-no-eq0.true
+pub returns-in-Err : goal.returns-in-Err
+returns-in-Err c = let h = run_refused c.args.ring.now c.args.s c.args.frame.now c.args.budget c.in-Err.ensures (refusal_some c.in-Err.refusal) in
+    (rw c.refused.ensures h.0, h.1)
 
-pub returns-then-no-eq0 : goal.returns-then-no-eq0
-returns-then-no-eq0 c = rw (c.word_of-word.ensures, c.room_left-left.ensures) (run_finished c.args.ring.now c.args.s c.args.frame.now c.args.budget c.run_number-no.ensures c.if-no-eq0.true c.do_units-t.ensures)
+pub do_units-turn-requires : goal.do_units-turn-requires
+do_units-turn-requires c = run_wellformed c.args.ring.now c.args.s c.args.frame.now c.args.budget c.in_default.ensures refl
 
 pub returns : goal.returns
-returns c = run_refused c.args.ring.now c.args.s c.args.frame.now c.args.budget c.run_number-no.ensures c.if-no-eq0.false
+returns c = let h = run_finished c.args.ring.now c.args.s c.args.frame.now c.args.budget c.in_default.ensures refl c.do_units-turn.ensures in
+    (rw (c.word_of.ensures, c.room_left.ensures) h.0, h.1)

@@ -1,7 +1,0 @@
-use Rattle.std.proofs.Common.{refl}
-use Rattle.units.specs.Turns.{moved_core}
-use Rattle.units.proofs.moved.Goals as goal
-
-pub returns : goal.returns
-unfolding moved_core
-returns c = refl
