@@ -1,6 +1,8 @@
 // Runs the shop cases that document 01 does not mark and prints, for each, whether it comes out as it says.
 #![tactic(auto)]
 
+use files::Said;
+
 // A ring of 1,024 words with one BLT at 0, all its words enabled: a solid fill of 5Ah by F0h, 8 bpp, 4 pixels wide, stride 16.
 fn fill(offset: u32, height: u32) -> [u32; 1024] {
     let mut ring = [0u32; 1024];
@@ -15,9 +17,8 @@ fn fill(offset: u32, height: u32) -> [u32; 1024] {
 
 // Replays a ring with write at 17 and a budget of 100, and answers whether it ends with these lines.
 fn ends(ring: &[u32], frame: &mut [u8], lines: &[u8]) -> bool {
-    let mut text = io::buffer();
-    let n = text::replay_lines(recording::replay(ring, frame, 17, 100), &mut text);
-    check::same(&text[..n], lines)
+    let text = text::replay_lines(recording::replay(ring, frame, 17, 100));
+    text.as_bytes() == lines
 }
 
 fn is_drawn_at_12() -> bool {
@@ -28,7 +29,7 @@ fn is_drawn_at_12() -> bool {
         &mut frame,
         b"retired=1\nunits=5\nread=17\nwrite=17\nstate=waiting\nrefusal=0\n",
     );
-    ended && check::same(&frame, b"\0\0\0\0\0\0\0\0\0\0\0\0ZZZZ")
+    ended && frame == *b"\0\0\0\0\0\0\0\0\0\0\0\0ZZZZ"
 }
 
 fn is_refused_at_13() -> bool {
@@ -39,7 +40,7 @@ fn is_refused_at_13() -> bool {
         &mut frame,
         b"retired=0\nunits=1\nread=0\nwrite=17\nstate=stopped\nrefusal=27\n",
     );
-    ended && check::same(&frame, b"\0\0\0\0\0\0\0\0\0\0\0\0\0\0\0\0")
+    ended && frame == [0; 16]
 }
 
 // Bytes 10 to 13 and 26 to 29 become 5Ah, an ASCII Z.
@@ -52,20 +53,21 @@ fn is_example() -> bool {
         b"retired=1\nunits=9\nread=17\nwrite=17\nstate=waiting\nrefusal=0\n",
     );
     ended
-        && check::same(
-            &frame,
-            b"\0\0\0\0\0\0\0\0\0\0ZZZZ\0\0\0\0\0\0\0\0\0\0\0\0ZZZZ\0\0\0\0\0\0\0\0\0\0\0\0\0\0\0\0\0\0\0\0\0\0\0\0\0\0\0\0\0\0\0\0\0\0",
-        )
+        && frame
+            == *b"\0\0\0\0\0\0\0\0\0\0ZZZZ\0\0\0\0\0\0\0\0\0\0\0\0ZZZZ\0\0\0\0\0\0\0\0\0\0\0\0\0\0\0\0\0\0\0\0\0\0\0\0\0\0\0\0\0\0\0\0\0\0"
 }
 
-// Whether a case's line could be written.
-fn print<R: Print + Eprint>(rt: &R, name: &[u8], fine: bool) -> bool {
-    let word: &[u8] = if fine { b"=ok\n" } else { b"=WRONG\n" };
-    files::write(rt, name) && files::write(rt, word)
+fn print<R: Print + Eprint>(rt: &R, name: &[u8], fine: bool) -> Result<(), Said> {
+    files::write(rt, name)?;
+    files::write(rt, if fine { b"=ok\n" } else { b"=WRONG\n" })
+}
+
+fn print_all<R: Print + Eprint>(rt: &R) -> Result<(), Said> {
+    print(rt, b"row_of_4_at_12_drawn", is_drawn_at_12())?;
+    print(rt, b"row_of_4_at_13_refused_by_27", is_refused_at_13())?;
+    print(rt, b"replay_example", is_example())
 }
 
 fn main(rt: HostRuntime) {
-    let _ = print(&rt, b"row_of_4_at_12_drawn", is_drawn_at_12())
-        && print(&rt, b"row_of_4_at_13_refused_by_27", is_refused_at_13())
-        && print(&rt, b"replay_example", is_example());
+    let _ = print_all(&rt);
 }

@@ -1,15 +1,19 @@
 // Input and output of the programs. What fails is said in a line on standard error.
 #![tactic(auto)]
 
-ghost use Rattle.io.specs.Counts.{IsPrefixLen};
+ghost use Rattle.std.specs.Io.{ReadsAtMost};
 
 use std::env::FillError;
 use std::fs::File;
 use std::io::{Cursor, Error, Read, Write};
 use std::rt::{Env, Files};
 
+// Something failed, and the line that says what is written.
+#[derive(Clone, Copy, Debug)]
+pub struct Said;
+
 // Says what failed and why: the system's words alone, without the number that std adds.
-fn say<R: Eprint>(rt: &R, what: &str, error: &Error) {
+fn say<R: Eprint>(rt: &R, what: &str, error: &Error) -> Said {
     let mut text = Cursor::new([0u8; 256]);
     let _ = write!(text, "{error}");
     let bytes = text.into_inner();
@@ -19,6 +23,7 @@ fn say<R: Eprint>(rt: &R, what: &str, error: &Error) {
         None => words,
     };
     let _ = eprintln!(rt; "{what}: {why}");
+    Said
 }
 
 // What the input is read from: standard input, or a file.
@@ -37,93 +42,50 @@ impl<I: Read, F: Read> Read for Source<I, F> {
     }
 }
 
-fn open_file<R: Files + Eprint>(rt: &R, path: &str) -> Option<R::File> {
-    match File::open(rt, path) {
-        Ok(file) => Some(file),
-        Err(error) => {
-            say(rt, path, &error);
-            None
-        }
-    }
-}
-
-fn open_path<R: Files + Eprint>(rt: &R, path: &[u8]) -> Option<R::File> {
+fn open_path<R: Files + Eprint>(rt: &R, path: &[u8]) -> Result<R::File, Said> {
     match str::from_utf8(path) {
-        Ok(path) => open_file(rt, path),
+        Ok(path) => File::open(rt, path).map_err(|error| say(rt, path, &error)),
         Err(error) => {
             let _ = eprintln!(rt; "argument: {error}");
-            None
+            Err(Said)
         }
     }
 }
 
-// The input: the file that the first argument names, or standard input without one; none where it cannot be opened.
-pub fn open<R: Files + Env + Eprint, I: Drop>(rt: &R, standard: I) -> Option<Source<I, R::File>> {
+// The input: the file that the first argument names, or standard input without one.
+pub fn open<R: Files + Env + Eprint, I: Drop>(
+    rt: &R,
+    standard: I,
+) -> Result<Source<I, R::File>, Said> {
     let mut path = io::buffer();
     match rt.arg(1, &mut path) {
-        Ok(n) => Some(Source::File(open_path(rt, &path[..n])?)),
-        Err(FillError::NotPresent) => Some(Source::Standard(standard)),
+        Ok(n) => Ok(Source::File(open_path(rt, &path[..n])?)),
+        Err(FillError::NotPresent) => Ok(Source::Standard(standard)),
         Err(FillError::TooLong) => {
             let _ = eprintln!(rt; "argument: File name too long");
-            None
+            Err(Said)
         }
     }
 }
 
-// What reading comes to: whether it failed, and how many bytes it put into the buffer.
-#[derive(Clone, Copy)]
-pub struct Input {
-    pub failed: bool,
-    pub bytes: usize,
-}
-
-// Reads once.
-fn read_some<R: Eprint, S: Read>(rt: &R, source: &mut S, buf: &mut [u8]) -> Input
-    ensures { IsPrefixLen result.bytes buf.new }
-{
-    match source.read(buf) {
-        Ok(bytes) => Input {
-            failed: false,
-            bytes,
-        },
-        Err(error) => {
-            say(rt, "cannot read the input", &error);
-            Input {
-                failed: true,
-                bytes: 0,
-            }
-        }
-    }
-}
-
-// Reads until a buffer is full, the input ends or reading fails.
-pub fn read<R: Eprint, S: Read>(rt: &R, source: &mut S, buf: &mut [u8]) -> Input
-    ensures { IsPrefixLen result.bytes buf.new }
+// Reads until a buffer is full or the input ends: how many bytes it put into the buffer. (It counts what came, which no range or
+// iterator gives; `read_exact` fails where the input ends early.)
+pub fn read<R: Eprint, S: Read>(rt: &R, source: &mut S, buf: &mut [u8]) -> Result<usize, Said>
+    ensures { ReadsAtMost result buf.new }
 {
     let mut done = 0;
     while done < buf.len() {
-        let some = read_some(rt, source, &mut buf[done..]);
-        if some.bytes == 0 {
-            return Input {
-                failed: some.failed,
-                bytes: done,
-            };
+        match source.read(&mut buf[done..]) {
+            Ok(0) => break,
+            Ok(n) => done += n,
+            Err(error) => return Err(say(rt, "cannot read the input", &error)),
         }
-        done += some.bytes;
     }
-    Input {
-        failed: false,
-        bytes: done,
-    }
+    Ok(done)
 }
 
-// Writes a text to standard output: false where it cannot be written.
-pub fn write<R: Print + Eprint>(rt: &R, text: &[u8]) -> bool {
-    match rt.write_all(text) {
-        Ok(()) => true,
-        Err(error) => {
-            say(rt, "cannot write the output", &error);
-            false
-        }
-    }
+// Writes a text to standard output.
+pub fn write<R: Print + Eprint>(rt: &R, text: &[u8]) -> Result<(), Said> {
+    rt.write_all(text)
+        .map_err(|error| say(rt, "cannot write the output", &error))
 }

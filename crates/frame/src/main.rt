@@ -3,14 +3,12 @@
 #![tactic(auto)]
 
 fn main(rt: HostRuntime) {
-    let Some(mut source) = files::open(&rt, rt.stdin()) else {
+    let Ok(mut source) = files::open(&rt, rt.stdin()) else {
         return;
     };
     let mut memory = recording::frame_buffer();
-    let got = files::read(&rt, &mut source, &mut memory);
-    if got.failed {
+    let Ok(n) = files::read(&rt, &mut source, &mut memory) else {
         return;
-    }
-    let k = recording::replay_frame(&mut memory, got.bytes);
-    files::write(&rt, &memory[..k]);
+    };
+    let _ = files::write(&rt, recording::replay_frame(&mut memory, n));
 }

@@ -1,6 +1,6 @@
 -- What `replay` and `frame` write of a recording, as a function of the file's bytes (document 01, Shop cases: "The replay
 -- program reads a recording ..").
-use Rattle.std.specs.Prelude.{ℕ, zero, suc, ◌+◌, ◌*◌, ◌≤◌, ◌<◌, ◌≡◌, refl, Bool, true, false, not, ◌||◌, List, [], ◌∷◌, ◌++◌, length, take, replicate, if◌then◌else◌}
+use Rattle.std.specs.Prelude.{ℕ, zero, suc, ◌+◌, ◌*◌, ◌≤◌, ◌<◌, ◌≡◌, refl, Bool, true, false, not, ◌||◌, List, [], ◌∷◌, ◌++◌, length, take, replicate, Option, None, Some, if◌then◌else◌}
 use Rattle.std.proofs.Common.{ap, arith, add-zero, eqb-true, length-take}
 use Rattle.std.proofs.lemmas.Bool.{not-false}
 use Rattle.io.specs.Counts.{IsPrefixLen}
@@ -68,13 +68,27 @@ frame_size file = if is_refused (made file) then 0 else (head_of file).frameleng
 unfoldable pub frame_bytes : List ℕ → List ℕ
 frame_bytes file = if bad_recording file || is_refused (made file) then [] else replayed_frame file
 
--- a recording, taken out of a buffer: its first words, its ring at the start of one buffer, a zeroed frame at the start of another
-pub record Loaded (file ring memory : List ℕ) (head : Head) : Type 0 where
+-- ---- the same as the code has it
+
+-- the first words of a recording that is not bad
+abbrev pub good_head : List ℕ → Option Head
+good_head file = if bad_recording file then None else Some (head_of file)
+
+-- a recording that is not bad, taken out of a file: its first words, and its ring at the start of a buffer
+pub record Loaded (file ring : List ℕ) (head : Head) : Type 0 where
+  pub fine : bad_recording file ≡ false
   pub head_is : head ≡ head_of file
   pub ring_in : IsPrefixLen head.ringlength ring
   pub ring_is : take head.ringlength ring ≡ ring_of file
-  pub frame_in : IsPrefixLen head.framelength memory
-  pub frame_is : take head.framelength memory ≡ zeroed file
+
+-- and none of a bad one
+abbrev pub Loads : List ℕ → List ℕ → Option Head → Type 0
+Loads file ring None = bad_recording file ≡ true
+Loads file ring (Some head) = Loaded file ring head
+
+-- `frame_size`, from the first words
+abbrev pub size_of_frame : Head → ℕ
+size_of_frame head = if is_refused (setup head.ringlength head.framelength) then 0 else head.framelength
 
 -- ---- laws
 

@@ -1,13 +1,14 @@
 // Recordings: the words of a file, and the replay of the calls that it asks for.
 #![tactic(auto)]
 
-ghost use Rattle.std.specs.Prelude.{◌≡◌, false, ◌+◌, ◌*◌, ◌≤◌, length, take, replicate};
+ghost use Rattle.std.specs.Prelude.{◌≡◌, ◌+◌, ◌*◌, ◌≤◌, length, take, replicate};
 ghost use Rattle.io.specs.Counts.{IsPrefixLen};
-ghost use Rattle.text.specs.Buffers.{Holds, buffer_length};
 ghost use Rattle.recording.specs.Replay.{ring_limit, frame_limit, bad_lengths, is_refused, played, played_frame, replay, replay_frame};
-ghost use Rattle.recording.specs.Recording.{file_word, file_words, head_of, bad_recording, Loaded, replayed, replayed_frame, frame_size, frame_bytes, replay_text};
+ghost use Rattle.recording.specs.Recording.{file_word, file_words, good_head, Loads, size_of_frame, frame_bytes, replay_text};
 
-use model::{Answer, State};
+use model::{Answer, Reply, State};
+use pixel::Pixel;
+use text::Text;
 
 // ---- the file
 
@@ -20,10 +21,7 @@ pub const FRAME_LIMIT: usize = 32768;
 pub fn is_long(ringlength: usize, framelength: usize) -> bool
     ensures { result ≡ bad_lengths ringlength framelength }
 {
-    if RING_LIMIT < ringlength {
-        return true;
-    }
-    FRAME_LIMIT < framelength
+    RING_LIMIT < ringlength || FRAME_LIMIT < framelength
 }
 
 // Word number i of a file.
@@ -31,7 +29,7 @@ pub fn word_at(file: &[u8], i: usize) -> u32
     requires { 4 * i + 4 ≤ length file.now }
     ensures { result ≡ file_word file.now i }
 {
-    pixel::get4(file, 4 * i)
+    u32::load(file, 4 * i)
 }
 
 // A recording's first words.
@@ -43,30 +41,24 @@ struct Head {
     budget: u32,
 }
 
-fn head_of(file: &[u8]) -> Head
-    requires { 16 ≤ length file.now }
-    ensures { result ≡ head_of file.now }
+// None of a bad recording.
+fn head_of(file: &[u8]) -> Option<Head>
+    ensures { result ≡ good_head file.now }
 {
-    Head {
+    if file.len() < 16 {
+        return None;
+    }
+    let head = Head {
         ringlength: word_at(file, 0) as usize,
         framelength: word_at(file, 1) as usize,
         write: word_at(file, 2) as usize,
         budget: word_at(file, 3),
+    };
+    if is_long(head.ringlength, head.framelength) || file.len() != 4 * (4 + head.ringlength) {
+        None
+    } else {
+        Some(head)
     }
-}
-
-fn is_bad(file: &[u8]) -> bool
-    ensures { result ≡ bad_recording file.now }
-{
-    if file.len() < 16 {
-        return true;
-    }
-    let head = head_of(file);
-    let long = is_long(head.ringlength, head.framelength);
-    if long {
-        return true;
-    }
-    file.len() != 4 * (4 + head.ringlength)
 }
 
 // Fills a ring with a recording's words.
@@ -74,21 +66,19 @@ fn read_words(file: &[u8], ring: &mut [u32])
     requires { 4 * (4 + length ring.old) ≤ length file.now }
     ensures { ring.new ≡ file_words file.now 4 (length ring.old) }
 {
-    let mut i = 0;
-    while i < ring.len() {
-        ring[i] = word_at(file, 4 + i);
-        i += 1;
+    for (i, word) in ring.iter_mut().enumerate() {
+        *word = word_at(file, 4 + i);
     }
 }
 
-fn clear(bytes: &mut [u8])
-    ensures { bytes.new ≡ replicate (length bytes.old) 0 }
+// Takes a recording out of a file: its first words, and its ring into the first part of a buffer. None of a bad one.
+fn load(file: &[u8], ring: &mut [u32]) -> Option<Head>
+    requires { ring_limit ≤ length ring.old }
+    ensures { Loads file.now ring.new result }
 {
-    let mut i = 0;
-    while i < bytes.len() {
-        bytes[i] = 0;
-        i += 1;
-    }
+    let head = head_of(file)?;
+    read_words(file, &mut ring[..head.ringlength]);
+    Some(head)
 }
 
 // ---- the calls
@@ -97,46 +87,47 @@ fn clear(bytes: &mut [u8])
 pub fn is_refused(a: Answer) -> bool
     ensures { result ≡ is_refused a }
 {
-    let parts = text::parts_of(a);
-    parts.number != 0
+    match a.reply {
+        Reply::Refused(number) => number != 0,
+        Reply::Accepted { .. } | Reply::Ran { .. } => false,
+    }
 }
 
 // One publish and one run: the answer of the run, or of the publish where it is refused.
 fn publish_and_run(ring: &[u32], s: State, frame: &mut [u8], write: usize, budget: u32) -> Answer
-    ensures { (result ≡ played ring.now s frame.old write budget) × (frame.new ≡ played_frame ring.now s frame.old write budget) }
+    ensures answer { result ≡ played ring.now s frame.old write budget }
+    ensures frame { frame.new ≡ played_frame ring.now s frame.old write budget }
 {
     let told = engine::publish(s, write);
-    let refused = is_refused(told);
-    if refused {
-        return told;
+    if is_refused(told) {
+        told
+    } else {
+        engine::run(ring, told.state, frame, budget)
     }
-    engine::run(ring, told.state, frame, budget)
 }
 
 // Setup, one publish and one run: the answer of the run, or of the first call that is refused.
 pub fn replay(ring: &[u32], frame: &mut [u8], write: usize, budget: u32) -> Answer
-    ensures { (result ≡ replay ring.now frame.old write budget) × (frame.new ≡ replay_frame ring.now frame.old write budget) }
+    ensures answer { result ≡ replay ring.now frame.old write budget }
+    ensures frame { frame.new ≡ replay_frame ring.now frame.old write budget }
 {
     let made = engine::setup(ring.len(), frame.len());
-    let refused = is_refused(made);
-    if refused {
-        return made;
+    if is_refused(made) {
+        made
+    } else {
+        publish_and_run(ring, made.state, frame, write, budget)
     }
-    publish_and_run(ring, made.state, frame, write, budget)
 }
 
 // How much frame memory a recording has: none where setup is refused.
-fn frame_size(file: &[u8]) -> usize
-    requires { 16 ≤ length file.now }
-    ensures { result ≡ frame_size file.now }
+fn frame_size(head: Head) -> usize
+    ensures { result ≡ size_of_frame head }
 {
-    let head = head_of(file);
-    let made = engine::setup(head.ringlength, head.framelength);
-    let refused = is_refused(made);
-    if refused {
-        return 0;
+    if is_refused(engine::setup(head.ringlength, head.framelength)) {
+        0
+    } else {
+        head.framelength
     }
-    head.framelength
 }
 
 // ---- the replay of a recording
@@ -154,59 +145,48 @@ pub fn frame_buffer() -> [u8; FRAME_LIMIT]
     [0; FRAME_LIMIT]
 }
 
-// Takes a recording out of the first n bytes of a buffer: its words into the first part of a ring, and zeros in their place,
-// since the buffer becomes frame memory. (File, ring and frame memory together would be more than 64 KiB. The engine state, with
-// its table of 2 KiB, is no buffer: it goes in and comes back by value.)
-fn load(memory: &mut [u8], n: usize, ring: &mut [u32]) -> Head
-    requires { IsPrefixLen n memory.old × (frame_limit ≤ length memory.old) × (ring_limit ≤ length ring.old) × (bad_recording (take n memory.old) ≡ false) }
-    ensures { Loaded (take n memory.old) ring.new memory.new result }
+// Replays a recording that is taken out of its file, on a frame memory that becomes zero first.
+fn play(head: Head, ring: &[u32], frame: &mut [u8]) -> Answer
+    ensures answer { result ≡ replay ring.now (replicate (length frame.old) 0) head.write head.budget }
+    ensures frame { frame.new ≡ replay_frame ring.now (replicate (length frame.old) 0) head.write head.budget }
 {
-    let head = head_of(&memory[..n]);
-    let ringlength = head.ringlength;
-    read_words(&memory[..n], &mut ring[..ringlength]);
-    clear(memory);
-    head
+    frame.fill(0);
+    replay(ring, frame, head.write, head.budget)
 }
 
-// Replays it: the answer, and frame memory from the start of the buffer.
-fn play(memory: &mut [u8], n: usize) -> Answer
-    requires { IsPrefixLen n memory.old × (frame_limit ≤ length memory.old) × (bad_recording (take n memory.old) ≡ false) }
-    ensures { (result ≡ replayed (take n memory.old)) × (take (head_of (take n memory.old)).framelength memory.new ≡ replayed_frame (take n memory.old)) }
+// The lines of a replay of the file in the first n bytes of a buffer, which becomes frame memory. (File, ring and frame memory
+// together would be more than 64 KiB, so the two cannot be lent apart. The engine state, with its table of 2 KiB, is no buffer:
+// it goes in and comes back by value.)
+pub fn replay_text(memory: &mut [u8], n: usize) -> Text
+    requires within { IsPrefixLen n memory.old }
+    requires room { frame_limit ≤ length memory.old }
+    ensures { result ≡ replay_text (take n memory.old) }
 {
     let mut ring = ring_buffer();
-    let head = load(memory, n, &mut ring);
-    let ringlength = head.ringlength;
-    let framelength = head.framelength;
-    replay(
-        &ring[..ringlength],
-        &mut memory[..framelength],
-        head.write,
-        head.budget,
-    )
+    match load(&memory[..n], &mut ring) {
+        Some(head) => text::replay_lines(play(
+            head,
+            &ring[..head.ringlength],
+            &mut memory[..head.framelength],
+        )),
+        None => text::bad_line(),
+    }
 }
 
-// The lines of a replay, in another buffer, and their length.
-pub fn replay_text(memory: &mut [u8], n: usize, out: &mut [u8]) -> usize
-    requires { IsPrefixLen n memory.old × (frame_limit ≤ length memory.old) × (buffer_length ≤ length out.old) }
-    ensures { Holds (replay_text (take n memory.old)) out.new result }
+// Frame memory after a replay, in the first part of the same buffer.
+pub fn replay_frame(memory: &mut [u8], n: usize) -> &[u8]
+    requires within { IsPrefixLen n memory.old }
+    requires room { frame_limit ≤ length memory.old }
+    ensures { result.now ≡ frame_bytes (take n memory.old) }
 {
-    let bad = is_bad(&memory[..n]);
-    if bad {
-        return text::bad_line(out);
-    }
-    text::replay_lines(play(memory, n), out)
-}
-
-// Frame memory after a replay, from the start of the buffer, and its length.
-pub fn replay_frame(memory: &mut [u8], n: usize) -> usize
-    requires { IsPrefixLen n memory.old × (frame_limit ≤ length memory.old) }
-    ensures { Holds (frame_bytes (take n memory.old)) memory.new result }
-{
-    let bad = is_bad(&memory[..n]);
-    if bad {
-        return 0;
-    }
-    let size = frame_size(&memory[..n]);
-    play(memory, n);
-    size
+    let mut ring = ring_buffer();
+    let Some(head) = load(&memory[..n], &mut ring) else {
+        return &[];
+    };
+    play(
+        head,
+        &ring[..head.ringlength],
+        &mut memory[..head.framelength],
+    );
+    &memory[..frame_size(head)]
 }

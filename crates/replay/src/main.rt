@@ -3,15 +3,13 @@
 #![tactic(auto)]
 
 fn main(rt: HostRuntime) {
-    let Some(mut source) = files::open(&rt, rt.stdin()) else {
+    let Ok(mut source) = files::open(&rt, rt.stdin()) else {
         return;
     };
     let mut memory = recording::frame_buffer();
-    let got = files::read(&rt, &mut source, &mut memory);
-    if got.failed {
+    let Ok(n) = files::read(&rt, &mut source, &mut memory) else {
         return;
-    }
-    let mut lines = io::buffer();
-    let k = recording::replay_text(&mut memory, got.bytes, &mut lines);
-    files::write(&rt, &lines[..k]);
+    };
+    let lines = recording::replay_text(&mut memory, n);
+    let _ = files::write(&rt, lines.as_bytes());
 }

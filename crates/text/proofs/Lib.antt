@@ -1,1 +1,1 @@
-pub mod Templates
+pub mod Lines

@@ -3,7 +3,7 @@ use Rattle.std.specs.Prelude.{ℕ, ◌+◌, ◌≤◌, ◌≡◌, List, ◌++◌
 use Rattle.std.proofs.Common.{ap, ◌∙◌, append_assoc, arith, length-take}
 use Rattle.io.specs.Counts.{IsPrefixLen}
 
--- the length of `io`'s buffers, which holds every line
+-- the length of a text's buffer, which holds every line
 abbrev pub buffer_length : ℕ
 buffer_length = 4_096
 

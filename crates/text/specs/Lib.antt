@@ -1,5 +1,4 @@
 pub mod Ascii
 pub mod Numerals
-pub mod Template
 pub mod Lines
 pub mod Buffers

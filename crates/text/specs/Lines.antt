@@ -12,8 +12,9 @@ use Rattle.model.specs.declared.Reply.TheVariants.{Refused, Accepted, Ran}
 use Rattle.model.specs.declared.Answer.{Answer}
 use Rattle.text.specs.Ascii.{ascii}
 use Rattle.text.specs.Numerals.{decimal, hexadecimal}
+use Rattle.text.specs.declared.Kind.{Kind}
+use Rattle.text.specs.declared.Kind.TheVariants.{Accepted as AcceptedKind, Refused as RefusedKind, Stopped as StoppedKind, Waiting as WaitingKind, Spent as SpentKind}
 use Rattle.text.specs.declared.Parts.{Parts}
-use Rattle.text.specs.declared.Drawn.{Drawn}
 
 -- ---- the replay's lines
 
@@ -101,16 +102,16 @@ call_line op a =
 abbrev pub crc_line : ℕ → List ℕ
 crc_line crc = lines (("frame_crc32", hexadecimal crc) ∷ [])
 
--- ---- the same by templates, as the code has it
+-- ---- the same by parts, as the code has it
 
-abbrev pub run_kind : RunWord → ℕ
-run_kind Stopped = 2
-run_kind Waiting = 3
-run_kind Spent = 4
+abbrev pub run_kind : RunWord → Kind
+run_kind Stopped = StoppedKind
+run_kind Waiting = WaitingKind
+run_kind Spent = SpentKind
 
-abbrev pub kind_of : Reply → ℕ
-kind_of (Refused number) = 1
-kind_of (Accepted room) = 0
+abbrev pub kind_of : Reply → Kind
+kind_of (Refused number) = RefusedKind
+kind_of (Accepted room) = AcceptedKind
 kind_of (Ran word units room) = run_kind word
 
 abbrev pub parts_of : Answer → Parts
@@ -122,9 +123,17 @@ parts_of a = record {
   last = last_number a.reply a.state.core.stop;
 }
 
-abbrev pub drawn_of : Place → Drawn
-drawn_of Idle = record { command = 0; pixels = 0 }
-drawn_of (Drawing Blt k) = record { command = 1; pixels = k }
-drawn_of (Drawing Vector k) = record { command = 2; pixels = k }
-drawn_of (Wanting k) = record { command = 1; pixels = k }
-drawn_of (Fed k feed) = record { command = 1; pixels = k }
+-- `state_name` and `answer_name` of a kind
+abbrev pub kind_state : Kind → List ℕ
+kind_state AcceptedKind = ascii "waiting"
+kind_state RefusedKind = ascii "refused"
+kind_state StoppedKind = ascii "stopped"
+kind_state WaitingKind = ascii "waiting"
+kind_state SpentKind = ascii "spent"
+
+abbrev pub kind_answer : Kind → ℕ → List ℕ
+kind_answer AcceptedKind number = ascii "0"
+kind_answer RefusedKind number = ascii "refused-" ++ decimal number
+kind_answer StoppedKind number = ascii "stopped"
+kind_answer WaitingKind number = ascii "waiting"
+kind_answer SpentKind number = ascii "spent"

@@ -1,292 +1,272 @@
 // Text: the lines that the programs write of the engine's answers.
 #![tactic(auto)]
 
-ghost use Rattle.std.specs.Prelude.{◌≡◌, ◌+◌, ◌*◌, ◌≤◌, length, get_or};
+ghost use Rattle.std.specs.Prelude.{◌≡◌, ◌+◌, ◌≤◌, [], ◌++◌, length};
 ghost use Rattle.text.specs.Numerals.{decimal, hexadecimal};
-ghost use Rattle.text.specs.Template.{takes, left_after, piece, filled};
-ghost use Rattle.text.specs.Lines.{run_kind, parts_of, drawn_of, replay_lines, bad_line, call_line, crc_line};
-ghost use Rattle.text.specs.Buffers.{buffer_length, Put, Holds};
+ghost use Rattle.text.specs.Lines.{run_kind, kind_state, kind_answer, parts_of, place_name, call_name, replay_lines, bad_line, call_line, crc_line};
+ghost use Rattle.text.specs.Buffers.{buffer_length};
 
 use model::{Answer, Place, Primitive, Reply, RunWord};
+use std::marker::Model;
 
-// ---- pieces of text
+// ---- text in a buffer
 
-// Puts a text into a buffer at a place, and answers the place after it. So do the functions below.
-fn put(out: &mut [u8], at: usize, text: &[u8]) -> usize
-    requires { at + length text.now ≤ length out.old }
-    ensures { Put out.old at text.now (length text.now) out.new result }
-{
-    let mut i = 0;
-    while i < text.len() {
-        let to = at + i;
-        out[to] = text[i];
-        i += 1;
-    }
-    at + i
+// The most bytes of a text.
+const BUFFER_LENGTH: usize = 4096;
+
+// A text in a buffer of its own, which holds every line.
+#[derive(Drop)]
+pub struct Text {
+    bytes: [u8; BUFFER_LENGTH],
+    length: usize,
 }
 
-// A number's decimal digits.
-fn put_decimal(out: &mut [u8], at: usize, n: u64) -> usize
-    requires { at + 20 ≤ length out.old }
-    ensures { Put out.old at (decimal n) 20 out.new result }
-{
-    let mut digits = [0u8; 20];
-    let k = io::decimal(n, &mut digits);
-    put(out, at, &digits[..k])
+impl Model for Text {
+    ghost use Rattle.std.specs.Prelude.{ℕ, ◌≤◌, List, take};
+    ghost use Rattle.text.specs.Buffers.{buffer_length};
+
+    ghost Value = { List ℕ };
+
+    ghost view = { λ text. take text.length text.bytes };
+
+    ghost invariant = { λ text. text.length ≤ buffer_length };
 }
 
-// A word's hexadecimal digits.
-fn put_hexadecimal(out: &mut [u8], at: usize, n: u32) -> usize
-    requires { at + 8 ≤ length out.old }
-    ensures { Put out.old at (hexadecimal n) 8 out.new result }
-{
-    let mut digits = [0u8; 16];
-    let k = io::hex(n as u64, 8, &mut digits);
-    put(out, at, &digits[..k])
-}
+impl Text {
+    pub fn new() -> Text
+        ensures { result ≡ [] }
+    {
+        Text {
+            bytes: [0; BUFFER_LENGTH],
+            length: 0,
+        }
+    }
 
-// ---- templates, as specs/Template has them
+    pub fn as_bytes(&self) -> &[u8]
+        ensures { result.now ≡ self.now }
+    {
+        &self.bytes[..self.length]
+    }
 
-// How many values a byte of a template takes.
-fn takes(byte: u8) -> usize
-    ensures { (result ≡ takes byte) × (result ≤ 1) }
-{
-    if byte == b'#' {
-        return 1;
+    // Puts bytes after the text.
+    fn put(&mut self, bytes: &[u8])
+        requires { length self.old + length bytes.now ≤ buffer_length }
+        ensures { self.new ≡ self.old ++ bytes.now }
+    {
+        let end = self.length + bytes.len();
+        self.bytes[self.length..end].copy_from_slice(bytes);
+        self.length = end;
     }
-    if byte == b'{' {
-        return 1;
-    }
-    0
-}
 
-// How many alternatives are left to pass after a byte.
-fn left_after(left: u64, byte: u8, value: u64) -> u64
-    ensures { result ≡ left_after left byte value }
-{
-    if byte == b'{' {
-        return value;
+    // A number's decimal digits.
+    fn put_decimal(&mut self, n: u64)
+        requires { length self.old + 20 ≤ buffer_length }
+        ensures text { self.new ≡ self.old ++ decimal n }
+        ensures most { length self.new ≤ length self.old + 20 }
+    {
+        let mut digits = [0u8; 20];
+        let k = io::decimal(n, &mut digits);
+        self.put(&digits[..k]);
     }
-    if byte == b'}' {
-        return 0;
-    }
-    if byte != b'|' {
-        return left;
-    }
-    if left == 0 {
-        return u64::MAX;
-    }
-    left - 1
-}
 
-// What a byte stands for.
-fn put_piece(out: &mut [u8], at: usize, left: u64, byte: u8, value: u64) -> usize
-    requires { at + 20 ≤ length out.old }
-    ensures { Put out.old at (piece left byte value) 20 out.new result }
-{
-    if left != 0 {
-        return at;
+    // A word's hexadecimal digits. (The library has a function for each kind of digits, so there are two here.)
+    fn put_hexadecimal(&mut self, n: u32)
+        requires { length self.old + 8 ≤ buffer_length }
+        ensures text { self.new ≡ self.old ++ hexadecimal n }
+        ensures most { length self.new ≤ length self.old + 8 }
+    {
+        let mut digits = [0u8; 16];
+        let k = io::hex(n as u64, 8, &mut digits);
+        self.put(&digits[..k]);
     }
-    if b'{' <= byte {
-        return at;
-    }
-    if byte == b'#' {
-        return put_decimal(out, at, value);
-    }
-    out[at] = byte;
-    at + 1
-}
 
-// A value, or 0 past the last.
-fn value_at(values: &[u64], i: usize) -> u64
-    ensures { result ≡ get_or values.now i 0 }
-{
-    if i < values.len() {
-        return values[i];
+    // A key and its number.
+    fn put_value(&mut self, key: &[u8], n: u64)
+        requires { length self.old + length key.now + 20 ≤ buffer_length }
+        ensures text { self.new ≡ self.old ++ (key.now ++ decimal n) }
+        ensures most { length self.new ≤ length self.old + length key.now + 20 }
+    {
+        self.put(key);
+        self.put_decimal(n);
     }
-    0
-}
 
-// Puts a template with its values into a buffer, and answers its length. A byte stands for 20 at most.
-fn fill(template: &[u8], values: &[u64], out: &mut [u8]) -> usize
-    requires { 20 * length template.now ≤ length out.old }
-    ensures { Holds (filled 0 template.now values.now) out.new result }
-{
-    let mut left = 0;
-    let mut next = 0;
-    let mut end = 0;
-    let mut i = 0;
-    while i < template.len() {
-        let byte = template[i];
-        let value = value_at(values, next);
-        end = put_piece(out, end, left, byte, value);
-        left = left_after(left, byte, value);
-        next += takes(byte);
-        i += 1;
+    // What a call answers, from the parts of the answer.
+    fn put_answer(&mut self, parts: Parts)
+        requires { length self.old + 40 ≤ buffer_length }
+        ensures text { self.new ≡ self.old ++ kind_answer parts.kind parts.number }
+        ensures most { length self.new ≤ length self.old + 40 }
+    {
+        match parts.kind {
+            Kind::Accepted => self.put(b"0"),
+            Kind::Refused => self.put_value(b"refused-", parts.number as u64),
+            Kind::Stopped | Kind::Waiting | Kind::Spent => self.put(state_word(parts.kind)),
+        }
     }
-    end
+
+    // The command in progress, and how many of its pixels are drawn.
+    fn put_place(&mut self, place: Place)
+        requires { length self.old + 40 ≤ buffer_length }
+        ensures text { self.new ≡ self.old ++ place_name place }
+        ensures most { length self.new ≤ length self.old + 40 }
+    {
+        match place {
+            Place::Idle => self.put(b"none"),
+            Place::Drawing(Primitive::Vector, k) => self.put_value(b"vector-", k as u64),
+            Place::Drawing(Primitive::Blt, k) | Place::Wanting(k) | Place::Fed(k, _) => {
+                self.put_value(b"blt-", k as u64)
+            }
+        }
+    }
 }
 
 // ---- what an answer says
 
-// An answer's parts. The kind counts as the call's line does: 0 accepted, 1 refused, 2 stopped, 3 waiting, 4 spent. The last
-// is the number that refused or stopped, or 0.
+// What an answer comes to: no Option or Result, since a run comes to one of three words.
+#[derive(Clone, Copy, Debug, PartialEq, Eq)]
+pub enum Kind {
+    Accepted,
+    Refused,
+    Stopped,
+    Waiting,
+    Spent,
+}
+
+impl From<RunWord> for Kind {
+    ghost from_gives = { λ word r. r ≡ run_kind word };
+
+    fn from(word: RunWord) -> Kind {
+        match word {
+            RunWord::Stopped => Kind::Stopped,
+            RunWord::Waiting => Kind::Waiting,
+            RunWord::Spent => Kind::Spent,
+        }
+    }
+}
+
+// An answer's parts. The last is the number that refused or stopped, or 0, as the lines and `bench_draw` have it.
 #[derive(Clone, Copy)]
 pub struct Parts {
-    pub kind: u64,
+    pub kind: Kind,
     pub number: u32,
     pub units: u32,
     pub room: usize,
     pub last: u32,
 }
 
-fn run_kind(word: RunWord) -> u64
-    ensures { result ≡ run_kind word }
-{
-    match word {
-        RunWord::Stopped => 2,
-        RunWord::Waiting => 3,
-        RunWord::Spent => 4,
-    }
-}
-
 pub fn parts_of(a: Answer) -> Parts
     ensures { result ≡ parts_of a }
 {
-    let s = a.state;
-    let c = s.core;
-    let reply = a.reply;
-    match reply {
+    match a.reply {
         Reply::Refused(number) => Parts {
-            kind: 1,
+            kind: Kind::Refused,
             number,
             units: 0,
             room: 0,
             last: number,
         },
         Reply::Accepted { room } => Parts {
-            kind: 0,
+            kind: Kind::Accepted,
             number: 0,
             units: 0,
             room,
             last: 0,
         },
         Reply::Ran { word, units, room } => Parts {
-            kind: run_kind(word),
+            kind: Kind::from(word),
             number: 0,
             units,
             room,
-            last: c.stop,
+            last: a.state.core.stop,
         },
     }
 }
 
-// What is being drawn: 0 nothing, 1 a BLT, 2 a vector, and how many of its pixels are drawn.
-#[derive(Clone, Copy)]
-struct Drawn {
-    command: u64,
-    pixels: u64,
-}
-
-fn drawn_of(place: Place) -> Drawn
-    ensures { result ≡ drawn_of place }
+// The word of a replay's end.
+fn state_word(kind: Kind) -> &'static [u8]
+    ensures { result.now ≡ kind_state kind }
 {
-    match place {
-        Place::Idle => Drawn {
-            command: 0,
-            pixels: 0,
-        },
-        Place::Drawing(kind, k) => match kind {
-            Primitive::Blt => Drawn {
-                command: 1,
-                pixels: k as u64,
-            },
-            Primitive::Vector => Drawn {
-                command: 2,
-                pixels: k as u64,
-            },
-        },
-        Place::Wanting(k) => Drawn {
-            command: 1,
-            pixels: k as u64,
-        },
-        Place::Fed(k, _) => Drawn {
-            command: 1,
-            pixels: k as u64,
-        },
+    match kind {
+        Kind::Refused => b"refused",
+        Kind::Stopped => b"stopped",
+        Kind::Accepted | Kind::Waiting => b"waiting",
+        Kind::Spent => b"spent",
     }
 }
 
-// ---- the lines, each put into a buffer, with its length as the answer
+// The call of a number in a trace. (A number, since `call_line` promises its line for every one.)
+fn call_word(op: u32) -> &'static [u8]
+    ensures word { result.now ≡ call_name op }
+    ensures most { length result.now ≤ 7 }
+{
+    match op {
+        0 => b"setup",
+        1 => b"publish",
+        2 => b"run",
+        3 => b"room",
+        4 => b"restart",
+        _ => b"",
+    }
+}
+
+// ---- the lines
 
 // The lines of a replay that ended with an answer.
-pub fn replay_lines(a: Answer, out: &mut [u8]) -> usize
-    requires { buffer_length ≤ length out.old }
-    ensures { Holds (replay_lines a) out.new result }
+pub fn replay_lines(a: Answer) -> Text
+    ensures { result ≡ replay_lines a }
 {
-    let s = a.state;
-    let c = s.core;
+    let c = a.state.core;
     let parts = parts_of(a);
-    let values = [
-        c.completion as u64,
-        parts.units as u64,
-        c.read as u64,
-        s.write as u64,
-        parts.kind,
-        parts.last as u64,
-    ];
-    fill(
-        b"retired=#\nunits=#\nread=#\nwrite=#\nstate={waiting|refused|stopped|waiting|spent}\nrefusal=#\n",
-        &values,
-        out,
-    )
+    let mut text = Text::new();
+    text.put_value(b"retired=", c.completion as u64);
+    text.put_value(b"\nunits=", parts.units as u64);
+    text.put_value(b"\nread=", c.read as u64);
+    text.put_value(b"\nwrite=", a.state.write as u64);
+    text.put(b"\nstate=");
+    text.put(state_word(parts.kind));
+    text.put_value(b"\nrefusal=", parts.last as u64);
+    text.put(b"\n");
+    text
 }
 
 // The line of a bad recording.
-pub fn bad_line(out: &mut [u8]) -> usize
-    requires { buffer_length ≤ length out.old }
-    ensures { Holds bad_line out.new result }
+pub fn bad_line() -> Text
+    ensures { result ≡ bad_line }
 {
-    put(out, 0, b"recording=bad\n")
+    let mut text = Text::new();
+    text.put(b"recording=bad\n");
+    text
 }
 
 // The line of a call of a trace and its answer. The call is setup where the op is 0.
-pub fn call_line(op: u32, a: Answer, out: &mut [u8]) -> usize
-    requires { buffer_length ≤ length out.old }
-    ensures { Holds (call_line op a) out.new result }
+pub fn call_line(op: u32, a: Answer) -> Text
+    ensures { result ≡ call_line op a }
 {
-    let s = a.state;
-    let c = s.core;
-    let place = c.place;
+    let c = a.state.core;
     let parts = parts_of(a);
-    let drawn = drawn_of(place);
-    let values = [
-        op as u64,
-        parts.kind,
-        parts.number as u64,
-        parts.units as u64,
-        parts.room as u64,
-        c.read as u64,
-        s.write as u64,
-        c.completion as u64,
-        c.stop as u64,
-        drawn.command,
-        drawn.pixels,
-        drawn.pixels,
-    ];
-    fill(
-        b"call={setup|publish|run|room|restart} answer={0|refused-#|stopped|waiting|spent} units=# room=# read=# write=# retired=# stop=# drawing={none|blt-#|vector-#}\n",
-        &values,
-        out,
-    )
+    let mut text = Text::new();
+    text.put(b"call=");
+    text.put(call_word(op));
+    text.put(b" answer=");
+    text.put_answer(parts);
+    text.put_value(b" units=", parts.units as u64);
+    text.put_value(b" room=", parts.room as u64);
+    text.put_value(b" read=", c.read as u64);
+    text.put_value(b" write=", a.state.write as u64);
+    text.put_value(b" retired=", c.completion as u64);
+    text.put_value(b" stop=", c.stop as u64);
+    text.put(b" drawing=");
+    text.put_place(c.place);
+    text.put(b"\n");
+    text
 }
 
 // The line of frame memory's checksum.
-pub fn crc_line(crc: u32, out: &mut [u8]) -> usize
-    requires { buffer_length ≤ length out.old }
-    ensures { Holds (crc_line crc) out.new result }
+pub fn crc_line(crc: u32) -> Text
+    ensures { result ≡ crc_line crc }
 {
-    let name = put(out, 0, b"frame_crc32=");
-    let end = put_hexadecimal(out, name, crc);
-    put(out, end, b"\n")
+    let mut text = Text::new();
+    text.put(b"frame_crc32=");
+    text.put_hexadecimal(crc);
+    text.put(b"\n");
+    text
 }

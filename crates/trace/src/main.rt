@@ -3,10 +3,12 @@
 #![tactic(auto)]
 
 ghost use Rattle.std.specs.Prelude.{true, ◌≡◌, length};
-ghost use Rattle.tracing.specs.Trace.{held, begin_of, Reached};
+ghost use Rattle.tracing.specs.Trace.{held, state_of, begin_of, Reached};
 
+use files::Said;
 use model::State;
 use std::io::Read;
+use std::ops::ControlFlow;
 
 fn empty_record() -> [u8; 12]
     ensures { 12 ≡ length result }
@@ -14,40 +16,24 @@ fn empty_record() -> [u8; 12]
     [0; 12]
 }
 
-// Whether there is more to do, and the state to do it with.
-#[derive(Clone, Copy)]
-struct Turn {
-    more: bool,
-    state: State,
-}
-
-// Reads a record, does it and writes its text.
+// Reads a record, does it and writes its text: whether there is more to do, with the state then.
 fn do_record<R: Print + Eprint, I: Read>(
     rt: &R,
     source: &mut I,
     s: State,
     ring: &mut [u32],
     frame: &mut [u8],
-) -> Turn
-    ensures { Reached (held s ring.old frame.old) (held result.state ring.new frame.new) }
+) -> ControlFlow<State, State>
+    ensures { Reached (held s ring.old frame.old) (held (state_of result) ring.new frame.new) }
 {
     let mut part = empty_record();
-    let got = files::read(rt, source, &mut part);
-    if got.failed {
-        return Turn {
-            more: false,
-            state: s,
-        };
-    }
-    let n = got.bytes;
-    let mut line = io::buffer();
-    let step = tracing::next_step(&part[..n], s, ring, frame, &mut line);
-    let k = step.length;
-    let written = files::write(rt, &line[..k]);
-    let state = step.state;
-    Turn {
-        more: step.more & written,
-        state,
+    let Ok(n) = files::read(rt, source, &mut part) else {
+        return ControlFlow::Break(s);
+    };
+    let step = tracing::next_step(&part[..n], s, ring, frame);
+    match files::write(rt, step.text.as_bytes()) {
+        Ok(()) => step.flow,
+        Err(Said) => ControlFlow::Break(step.state()),
     }
 }
 
@@ -65,21 +51,20 @@ fn records<R: Print + Eprint, I: Read>(
     ensures { Reached (begin_of head.now).held (held result ring.new frame.new) }
 {
     let mut t = s;
-    let mut turns = u64::MAX;
-    while turns > 0 {
-        turns -= 1;
-        let done = do_record(rt, source, t, ring, frame);
-        t = done.state;
-        if !done.more {
-            return t;
+    for _turn in 0..u64::MAX {
+        match do_record(rt, source, t, ring, frame) {
+            ControlFlow::Continue(next) => t = next,
+            ControlFlow::Break(last) => return last,
         }
     }
     t
 }
 
 // Does the records on the first parts of two zeroed buffers, where setup lets the trace go on.
+#[tactic(auto, using(tracing::specs::Trace::begun))]
 fn go_on<R: Print + Eprint, I: Read>(rt: &R, source: &mut I, head: &[u8], s: State)
-    requires { ((begin_of head.now).more ≡ true) × (s ≡ (begin_of head.now).held.state) }
+    requires more { (begin_of head.now).more ≡ true }
+    requires state { s ≡ (begin_of head.now).held.state }
 {
     let ringlength = recording::word_at(head, 0) as usize;
     let framelength = recording::word_at(head, 1) as usize;
@@ -96,28 +81,21 @@ fn go_on<R: Print + Eprint, I: Read>(rt: &R, source: &mut I, head: &[u8], s: Sta
 }
 
 // Sets the engine up, writes the line of it, and goes on.
-fn trace<R: Print + Eprint, I: Read>(rt: &R, source: &mut I, head: &[u8]) {
-    let mut line = io::buffer();
-    let begin = tracing::first_step(head, &mut line);
-    let k = begin.length;
-    let written = files::write(rt, &line[..k]);
-    if !written {
-        return;
+fn trace<R: Print + Eprint, I: Read>(rt: &R, source: &mut I, head: &[u8]) -> Result<(), Said> {
+    let begin = tracing::first_step(head);
+    files::write(rt, begin.text.as_bytes())?;
+    if let ControlFlow::Continue(state) = begin.flow {
+        go_on(rt, source, head, state);
     }
-    if begin.more {
-        go_on(rt, source, head, begin.state);
-    }
+    Ok(())
 }
 
 fn main(rt: HostRuntime) {
-    let Some(mut source) = files::open(&rt, rt.stdin()) else {
+    let Ok(mut source) = files::open(&rt, rt.stdin()) else {
         return;
     };
     let mut head = [0u8; 8];
-    let got = files::read(&rt, &mut source, &mut head);
-    if got.failed {
-        return;
+    if let Ok(n) = files::read(&rt, &mut source, &mut head) {
+        let _ = trace(&rt, &mut source, &head[..n]);
     }
-    let n = got.bytes;
-    trace(&rt, &mut source, &head[..n]);
 }

@@ -1,6 +1,6 @@
 -- What `trace` writes, as a function of the file's bytes: little-endian words, ring length and frame length, then records of
 -- three words `op a b`.
-use Rattle.std.specs.Prelude.{ℕ, zero, suc, ◌+◌, ◌-◌, ◌≤◌, ◌<◌, ◌≡◌, Bool, true, false, not, ◌&&◌, ◌||◌, List, [], ◌∷◌, ◌++◌, length, take, drop, set, replicate, if◌then◌else◌}
+use Rattle.std.specs.Prelude.{ℕ, zero, suc, ◌+◌, ◌-◌, ◌≤◌, ◌<◌, ◌≡◌, Bool, true, false, not, ◌&&◌, ◌||◌, List, [], ◌∷◌, ◌++◌, length, take, drop, set, replicate, Option, None, Some, if◌then◌else◌}
 use Rattle.std.proofs.Math.Path.{refl, ap}
 use Rattle.std.proofs.Common.{sym, subst, ◌∙◌, append_assoc, append-nil, zero-add, length-append, take_at, drop_at, take_all}
 use native.Mathlib.Omega.{arith}
@@ -13,11 +13,16 @@ use Rattle.model.specs.Calls.{setup, publish, run, run_frame, ask_room, restart}
 use Rattle.model.specs.declared.State.{State}
 use Rattle.model.specs.declared.Answer.{Answer}
 use Rattle.text.specs.Lines.{call_line, crc_line, bad_line}
-use Rattle.text.specs.Buffers.{Holds}
 use Rattle.recording.specs.Parts.{part_length, take_zeros}
 use Rattle.recording.specs.Replay.{ring_limit, frame_limit, bad_lengths, good_lengths, is_refused}
 use Rattle.recording.specs.Recording.{file_word}
 use Rattle.crc.specs.Crc.{crc32}
+use Rattle.std.specs.declared.ops.ControlFlow.{ControlFlow}
+use Rattle.std.specs.declared.ops.ControlFlow.TheVariants.{Continue, Break}
+use Rattle.tracing.specs.declared.Call.{Call}
+use Rattle.tracing.specs.declared.Call.TheVariants.{Publish, Run, Room, Restart}
+use Rattle.tracing.specs.declared.Record.{Record}
+use Rattle.tracing.specs.declared.Record.TheVariants.{Store, Called}
 use Rattle.tracing.specs.declared.Step.{Step}
 
 -- ---- a record
@@ -148,30 +153,73 @@ InParts =
 
 -- ---- the same as the code has it
 
--- the answer of a function that does a record: what it leaves in ring, frame memory and the text's buffer
-pub record Steps (x : Stepped) (r : Step) (ring frame out : List ℕ) : Type 0 where
-  pub more_is : r.more ≡ x.more
-  pub held_is : held r.state ring frame ≡ x.held
-  pub text_is : Holds x.text out r.length
+-- the call that an op and the word behind it ask for
+abbrev pub call_of : ℕ → ℕ → Call
+call_of op a =
+    if op =? 1 then Publish a
+    else if op =? 2 then Run a
+    else if op =? 3 then Room
+    else Restart
+
+-- and the other way round
+abbrev pub op_of : Call → ℕ
+op_of (Publish position) = 1
+op_of (Run budget) = 2
+op_of Room = 3
+op_of Restart = 4
+
+abbrev pub argument_of : Call → ℕ
+argument_of (Publish position) = position
+argument_of (Run budget) = budget
+argument_of Room = 0
+argument_of Restart = 0
+
+-- a record that is not bad
+abbrev pub record_of : ℕ → ℕ → ℕ → Record
+record_of op a b = if op =? 0 then Store a b else Called (call_of op a)
+
+abbrev pub good_record : List ℕ → ℕ → Option Record
+good_record part ringlength =
+    if bad_record part ringlength then None else Some (record_of (file_word part 0) (file_word part 1) (file_word part 2))
+
+-- the lengths of ring and frame memory, of a trace that does not begin badly
+abbrev pub good_begin : List ℕ → Option (ℕ × ℕ)
+good_begin head = if bad_begin head then None else Some (file_word head 0, file_word head 1)
+
+-- whether a trace goes on, and the state with which it goes on or ends
+abbrev pub goes_on : ControlFlow State State → Bool
+goes_on (Continue s) = true
+goes_on (Break s) = false
+
+abbrev pub state_of : ControlFlow State State → State
+state_of (Continue s) = s
+state_of (Break s) = s
+
+-- the answer of a function that does a record, and what it leaves in ring and frame memory
+pub record Steps (x : Stepped) (r : Step) (ring frame : List ℕ) : Type 0 where
+  pub more_is : goes_on r.flow ≡ x.more
+  pub held_is : held (state_of r.flow) ring frame ≡ x.held
+  pub text_is : r.text ≡ x.text
 
 -- and of the one that does the setup: ring and frame memory are the caller's
-pub record Begins (x : Stepped) (r : Step) (out : List ℕ) : Type 0 where
-  pub more_is : r.more ≡ x.more
-  pub state_is : r.state ≡ x.held.state
-  pub text_is : Holds x.text out r.length
+pub record Begins (x : Stepped) (r : Step) : Type 0 where
+  pub more_is : goes_on r.flow ≡ x.more
+  pub state_is : state_of r.flow ≡ x.held.state
+  pub text_is : r.text ≡ x.text
 
 -- ---- laws
 
-module _ (head : List ℕ) (made : Answer) {out : List ℕ} {n : ℕ} where
-  pub begins_bad : bad_begin head ≡ true → made ≡ setup 0 0 → Holds bad_line out n
-      → Begins (begin_of head) (record { more = false; state = made.state; length = n }) out
+module _ (head : List ℕ) (made : Answer) {text : List ℕ} where
+  pub begins_bad : bad_begin head ≡ true → made ≡ setup 0 0 → text ≡ bad_line
+      → Begins (begin_of head) (record { text = text; flow = Break made.state })
   unfolding begin_of
   begins_bad bad is h = rw bad (record { more_is = refl; state_is = ap (λ (a : Answer). a.state) is; text_is = h })
 
-  pub begins_good : bad_begin head ≡ false → made ≡ setup (file_word head 0) (file_word head 1) → Holds (call_line 0 made) out n
-      → Begins (begin_of head) (record { more = not (is_refused made); state = made.state; length = n }) out
+  pub begins_good : {flow : ControlFlow State State} → bad_begin head ≡ false
+      → made ≡ setup (file_word head 0) (file_word head 1) → text ≡ call_line 0 made → goes_on flow ≡ not (is_refused made)
+      → state_of flow ≡ made.state → Begins (begin_of head) (record { text = text; flow = flow })
   unfolding begin_of
-  begins_good fine is h = rw (fine, ← is) (record { more_is = refl; state_is = refl; text_is = h })
+  begins_good fine is h more state = rw (fine, ← is) (record { more_is = more; state_is = state; text_is = h })
 
 pub whole_begin : (head : List ℕ) → bad_begin head ≡ false → 8 ≤ length head
 whole_begin head e = ltb-false (length head) 8 (neither (length head <? 8) _ e).0
@@ -226,24 +274,24 @@ whole_record part n e =
       (λ z. leb-false n (file_word part 1) (rw (eq-eqb (file_word part 0) 0 z) at a.1)),
     )
 
-module _ (part : List ℕ) (t : Held) {out : List ℕ} where
-  pub steps_last : bad_record part (length t.ring) ≡ true → {n : ℕ} → Holds (last_line part t.frame) out n
-      → Steps (step_of part t) (record { more = false; state = t.state; length = n }) t.ring t.frame out
+module _ (part : List ℕ) (t : Held) where
+  pub steps_last : bad_record part (length t.ring) ≡ true → {text : List ℕ} → text ≡ last_line part t.frame
+      → Steps (step_of part t) (record { text = text; flow = Break t.state }) t.ring t.frame
   unfolding step_of
   steps_last bad h = rw bad (record { more_is = refl; held_is = refl; text_is = h })
 
   module _ (fine : bad_record part (length t.ring) ≡ false) {op a : ℕ} (op-is : op ≡ file_word part 0) (a-is : a ≡ file_word part 1) where
     pub steps_store : op ≡ 0 → (b : ℕ) → b ≡ file_word part 2
-        → Steps (step_of part t) (record { more = true; state = t.state; length = 0 }) (set t.ring a b) t.frame out
+        → Steps (step_of part t) (record { text = []; flow = Continue t.state }) (set t.ring a b) t.frame
     unfolding step_of
     steps_store z b b-is = rw (fine, eq-eqb (file_word part 0) 0 (sym op-is ∙ z), a-is, b-is) (record {
       more_is = refl;
       held_is = refl;
-      text_is = record { counts = (omega arith, refl); text_is = refl };
+      text_is = refl;
     })
 
-    pub steps_call : (op ≡ 0 → ⊥) → {r : Step} {ring frame : List ℕ} → Steps (call_step op a t) r ring frame out
-        → Steps (step_of part t) r ring frame out
+    pub steps_call : (op ≡ 0 → ⊥) → {r : Step} {ring frame : List ℕ} → Steps (call_step op a t) r ring frame
+        → Steps (step_of part t) r ring frame
     unfolding step_of
     steps_call some h = rw (fine, ← op-is, ← a-is, ne_eqb op 0 some) h
 
@@ -261,9 +309,9 @@ step_reached part t l = go (bad_record part (length t.ring)) (file_word part 0 =
         let w = whole_record part (length t.ring) ea in
         record { parts = part ∷ []; all_go = (omega arith, rw (ea, eb), tt); after_is = refl }
 
-pub steps_reached : (part : List ℕ) (t : Held) (r : Step) (ring frame out : List ℕ) → length part ≤ 12
-    → Steps (step_of part t) r ring frame out → Reached t (held r.state ring frame)
-steps_reached part t r ring frame out l h = subst (Reached t) (sym h.held_is) (step_reached part t l)
+pub steps_reached : (part : List ℕ) (t : Held) (r : Step) (ring frame : List ℕ) → length part ≤ 12
+    → Steps (step_of part t) r ring frame → Reached t (held (state_of r.flow) ring frame)
+steps_reached part t r ring frame l h = subst (Reached t) (sym h.held_is) (step_reached part t l)
 
 -- some parts after others
 both_go : (ps qs : List (List ℕ)) (t : Held) → AllGo ps t → AllGo qs (held_after ps t)

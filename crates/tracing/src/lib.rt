@@ -1,142 +1,175 @@
 // Traces: setup, and one record after the other, each with its line.
 #![tactic(auto)]
 
-ghost use Rattle.std.specs.Prelude.{◌≡◌, ◌≤◌, length};
-ghost use Rattle.text.specs.Buffers.{Holds, buffer_length};
-ghost use Rattle.tracing.specs.Trace.{asked, asked_frame, bad_begin, bad_record, held, last_line, call_step, step_of, begin_of, Steps, Begins};
+ghost use Rattle.std.specs.Prelude.{◌≡◌};
+ghost use Rattle.tracing.specs.Trace.{asked, asked_frame, op_of, argument_of, good_begin, good_record, state_of, held, last_line, call_step, step_of, begin_of, Steps, Begins};
 
 use model::{Answer, State};
+use std::ops::ControlFlow;
+use text::Text;
 
-// The call that a record asks for: 1 publish, 2 run, 3 room, else restart.
-fn ask(op: u32, a: u32, s: State, ring: &[u32], frame: &mut [u8]) -> Answer
-    ensures { (result ≡ asked op a s ring.now frame.old) × (frame.new ≡ asked_frame op a s ring.now frame.old) }
-{
-    if op == 1 {
-        return engine::publish(s, a as usize);
-    }
-    if op == 2 {
-        return engine::run(ring, s, frame, a);
-    }
-    if op == 3 {
-        return engine::room(s);
-    }
-    engine::restart(s)
-}
+// ---- a record
 
-// What a part of a trace comes to: whether the trace goes on, the state then, and the length of the text that it writes.
+// The call that a record asks for: a publish of a position, a run with a budget, or one of the two that take nothing.
 #[derive(Clone, Copy)]
-pub struct Step {
-    pub more: bool,
-    pub state: State,
-    pub length: usize,
+enum Call {
+    Publish(usize),
+    Run(u32),
+    Room,
+    Restart,
 }
 
-// Whether a trace has fewer than two words, or lengths that are too long.
-fn is_bad_begin(head: &[u8]) -> bool
-    ensures { result ≡ bad_begin head.now }
+impl From<Call> for u32 {
+    ghost from_gives = { λ call r. r ≡ op_of call };
+
+    // Its number in a trace.
+    fn from(call: Call) -> u32 {
+        match call {
+            Call::Publish(_) => 1,
+            Call::Run(_) => 2,
+            Call::Room => 3,
+            Call::Restart => 4,
+        }
+    }
+}
+
+// A record of a trace: a store into the ring, or a call.
+#[derive(Clone, Copy)]
+enum Record {
+    Store { at: usize, word: u32 },
+    Called(Call),
+}
+
+// None of a record that is cut, has an unknown op or stores beyond the ring.
+fn record_of(part: &[u8], ringlength: usize) -> Option<Record>
+    ensures { result ≡ good_record part.now ringlength }
+{
+    if part.len() < 12 {
+        return None;
+    }
+    let a = recording::word_at(part, 1);
+    match recording::word_at(part, 0) {
+        0 if (a as usize) < ringlength => Some(Record::Store {
+            at: a as usize,
+            word: recording::word_at(part, 2),
+        }),
+        1 => Some(Record::Called(Call::Publish(a as usize))),
+        2 => Some(Record::Called(Call::Run(a))),
+        3 => Some(Record::Called(Call::Room)),
+        4 => Some(Record::Called(Call::Restart)),
+        _ => None,
+    }
+}
+
+// Makes a call. (As `drive::answer` does, whose promise is by the calls of demand 3; a trace's is by its ops.)
+#[tactic(auto, unfolding(crate::specs::Trace::asked, crate::specs::Trace::asked_frame))]
+fn ask(call: Call, s: State, ring: &[u32], frame: &mut [u8]) -> Answer
+    ensures answer { result ≡ asked (op_of call) (argument_of call) s ring.now frame.old }
+    ensures frame { frame.new ≡ asked_frame (op_of call) (argument_of call) s ring.now frame.old }
+{
+    match call {
+        Call::Publish(position) => engine::publish(s, position),
+        Call::Run(budget) => engine::run(ring, s, frame, budget),
+        Call::Room => engine::room(s),
+        Call::Restart => engine::restart(s),
+    }
+}
+
+// ---- the steps
+
+// What a part of a trace comes to: the text that it writes, and whether the trace goes on, with the state then.
+#[derive(Drop)]
+pub struct Step {
+    pub text: Text,
+    pub flow: ControlFlow<State, State>,
+}
+
+impl Step {
+    // The state, whether the trace goes on or not.
+    pub fn state(&self) -> State
+        ensures { result ≡ state_of self.now.flow }
+    {
+        match self.flow {
+            ControlFlow::Continue(s) | ControlFlow::Break(s) => s,
+        }
+    }
+}
+
+// The lengths of ring and frame memory: none where a trace has fewer than two words, or lengths that are too long.
+fn lengths_of(head: &[u8]) -> Option<(usize, usize)>
+    ensures { result ≡ good_begin head.now }
 {
     if head.len() < 8 {
-        return true;
+        return None;
     }
     let ringlength = recording::word_at(head, 0) as usize;
     let framelength = recording::word_at(head, 1) as usize;
-    recording::is_long(ringlength, framelength)
+    if recording::is_long(ringlength, framelength) {
+        None
+    } else {
+        Some((ringlength, framelength))
+    }
 }
 
 // Setup and its line, from a trace's first two words.
-pub fn first_step(head: &[u8], out: &mut [u8]) -> Step
-    requires { buffer_length ≤ length out.old }
-    ensures { Begins (begin_of head.now) result out.new }
+pub fn first_step(head: &[u8]) -> Step
+    ensures { Begins (begin_of head.now) result }
 {
-    let bad = is_bad_begin(head);
-    if bad {
-        let length = text::bad_line(out);
-        let made = engine::setup(0, 0);
-        let state = made.state;
+    let Some((ringlength, framelength)) = lengths_of(head) else {
         return Step {
-            more: false,
-            state,
-            length,
+            text: text::bad_line(),
+            flow: ControlFlow::Break(engine::setup(0, 0).state),
         };
-    }
-    let ringlength = recording::word_at(head, 0) as usize;
-    let framelength = recording::word_at(head, 1) as usize;
+    };
     let made = engine::setup(ringlength, framelength);
-    let length = text::call_line(0, made, out);
-    let refused = recording::is_refused(made);
-    let state = made.state;
     Step {
-        more: !refused,
-        state,
-        length,
+        text: text::call_line(0, made),
+        flow: if recording::is_refused(made) {
+            ControlFlow::Break(made.state)
+        } else {
+            ControlFlow::Continue(made.state)
+        },
     }
-}
-
-// Whether a record is cut, has an unknown op or stores beyond the ring.
-fn is_bad_record(part: &[u8], ringlength: usize) -> bool
-    ensures { result ≡ bad_record part.now ringlength }
-{
-    if part.len() < 12 {
-        return true;
-    }
-    let op = recording::word_at(part, 0);
-    if 4 < op {
-        return true;
-    }
-    let at = recording::word_at(part, 1) as usize;
-    op == 0 && ringlength <= at
 }
 
 // The line after the last record: the checksum of frame memory at the end of the file, else `recording=bad`.
-fn last_line(part: &[u8], frame: &[u8], out: &mut [u8]) -> usize
-    requires { buffer_length ≤ length out.old }
-    ensures { Holds (last_line part.now frame.now) out.new result }
+fn last_line(part: &[u8], frame: &[u8]) -> Text
+    ensures { result ≡ last_line part.now frame.now }
 {
-    if part.len() != 0 {
-        return text::bad_line(out);
+    if part.is_empty() {
+        text::crc_line(crc::crc32(frame))
+    } else {
+        text::bad_line()
     }
-    text::crc_line(crc::crc32(frame), out)
 }
 
 // The call of a record, and its line.
-fn call_step(op: u32, a: u32, s: State, ring: &[u32], frame: &mut [u8], out: &mut [u8]) -> Step
-    requires { buffer_length ≤ length out.old }
-    ensures { Steps (call_step op a (held s ring.now frame.old)) result ring.now frame.new out.new }
+fn call_step(call: Call, s: State, ring: &[u32], frame: &mut [u8]) -> Step
+    ensures { Steps (call_step (op_of call) (argument_of call) (held s ring.now frame.old)) result ring.now frame.new }
 {
-    let answer = ask(op, a, s, ring, frame);
-    let length = text::call_line(op, answer, out);
-    let state = answer.state;
+    let answer = ask(call, s, ring, frame);
     Step {
-        more: true,
-        state,
-        length,
+        text: text::call_line(u32::from(call), answer),
+        flow: ControlFlow::Continue(answer.state),
     }
 }
 
-// One record: the next 12 bytes of a trace, or fewer where it ends. Its text stands in `out`.
-pub fn next_step(part: &[u8], s: State, ring: &mut [u32], frame: &mut [u8], out: &mut [u8]) -> Step
-    requires { buffer_length ≤ length out.old }
-    ensures { Steps (step_of part.now (held s ring.old frame.old)) result ring.new frame.new out.new }
+// One record: the next 12 bytes of a trace, or fewer where it ends.
+pub fn next_step(part: &[u8], s: State, ring: &mut [u32], frame: &mut [u8]) -> Step
+    ensures { Steps (step_of part.now (held s ring.old frame.old)) result ring.new frame.new }
 {
-    let bad = is_bad_record(part, ring.len());
-    if bad {
-        let length = last_line(part, frame, out);
-        return Step {
-            more: false,
-            state: s,
-            length,
-        };
+    match record_of(part, ring.len()) {
+        None => Step {
+            text: last_line(part, frame),
+            flow: ControlFlow::Break(s),
+        },
+        Some(Record::Store { at, word }) => {
+            ring[at] = word;
+            Step {
+                text: Text::new(),
+                flow: ControlFlow::Continue(s),
+            }
+        }
+        Some(Record::Called(call)) => call_step(call, s, ring, frame),
     }
-    let op = recording::word_at(part, 0);
-    let a = recording::word_at(part, 1);
-    if op == 0 {
-        let at = a as usize;
-        ring[at] = recording::word_at(part, 2);
-        return Step {
-            more: true,
-            state: s,
-            length: 0,
-        };
-    }
-    call_step(op, a, s, ring, frame, out)
 }

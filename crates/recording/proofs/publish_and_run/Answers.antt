@@ -1,11 +1,12 @@
+use Rattle.std.proofs.Common.{refl}
 use Rattle.recording.specs.Replay.{played, played_frame}
-use mathlib.Core.Path.{refl}
 use Rattle.recording.proofs.publish_and_run.Goals as goal
 
-pub returns-then-refused : goal.returns-then-refused
+pub returns-then-is_refused : goal.returns-then-is_refused
 unfolding played played_frame
-returns-then-refused c = rw (← c.publish-told.ensures, ← c.is_refused-refused.ensures, c.if-refused.true) (refl, refl)
+returns-then-is_refused c =
+    rw (← c.publish-told.ensures, ← c.is_refused.ensures, c.if-is_refused.true) (record { answer = refl; frame = refl })
 
-pub returns : goal.returns
+pub returns-else-is_refused : goal.returns-else-is_refused
 unfolding played played_frame
-returns c = rw (← c.publish-told.ensures, ← c.is_refused-refused.ensures, c.if-refused.false) c.run.ensures
+returns-else-is_refused c = rw (← c.publish-told.ensures, ← c.is_refused.ensures, c.if-is_refused.false) (record { answer = c.run.ensures.0; frame = c.run.ensures.1 })

@@ -1,21 +1,27 @@
-use Rattle.recording.proofs.Files.{whole, frame_in, frame_held}
+use Rattle.std.proofs.Common.{arith, length-append, drop}
 use Rattle.recording.specs.Recording.{frame_bytes}
-use Rattle.text.specs.Buffers.{holds}
-use lib.ListN.{take}
-use mathlib.Core.Path.{refl, sym, ◌∙◌}
-use native.Mathlib.Omega.{arith}
+use Rattle.recording.specs.Parts.{part_length}
+use Rattle.recording.proofs.Files.{frame_in, frame_is, written_is, size_most}
 use Rattle.recording.proofs.replay_frame.Goals as goal
 
-pub returns-then-bad : goal.returns-then-bad
+pub returns-in_default : goal.returns-in_default
 unfolding frame_bytes
-returns-then-bad c = rw (← c.is_bad-bad.ensures, c.if-bad.true) (holds (omega arith) refl)
+returns-in_default c = rw c.in_default.ensures
 
-pub frame_size-size-requires : goal.frame_size-size-requires
-frame_size-size-requires c = whole (take c.args.n c.args.memory.now) (sym c.is_bad-bad.ensures ∙ c.if-bad.false)
+pub slice_bounds-play-end-2 : goal.slice_bounds-play-end-2
+slice_bounds-play-end-2 c = let l = c.in-Some.ensures in (frame_in _ _ l.fine l.head_is c.args.memory.now c.requires.room).0
 
-pub play-requires : goal.play-requires
-play-requires c = (c.requires.0, c.requires.1, sym c.is_bad-bad.ensures ∙ c.if-bad.false)
+pub slice_bounds-play-end-3 : goal.slice_bounds-play-end-3
+slice_bounds-play-end-3 c = let l = c.in-Some.ensures in (frame_in _ _ l.fine l.head_is c.args.memory.now c.requires.room).1
+
+pub slice_bounds-result-end-2 : goal.slice_bounds-result-end-2
+slice_bounds-result-end-2 c =
+    let l = c.in-Some.ensures in
+    let memory = c.args.memory.now in
+    let room = frame_in _ _ l.fine l.head_is memory c.requires.room in
+    part_length c.frame_size.result _
+    (rw c.frame_size.ensures (omega (arith, length-append c.play.new.frame (drop c.in-Some.head.framelength memory), size_most c.in-Some.head, c.play.auto.frame, room.1)))
 
 pub returns : goal.returns
-returns c = let fine = sym c.is_bad-bad.ensures ∙ c.if-bad.false in
-    rw c.frame_size-size.ensures (frame_held (take c.args.n c.args.memory.now) _ fine (frame_in _ fine _ (omega (arith, c.play.auto.memory, c.requires.1))) c.play.ensures.1)
+returns c = let l = c.in-Some.ensures in
+    rw c.frame_size.ensures (written_is _ _ _ _ l c.requires.room _ _ c.play.auto.frame (frame_is _ _ _ _ l c.requires.room _ c.play.ensures.frame))

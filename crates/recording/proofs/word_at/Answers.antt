@@ -3,4 +3,4 @@ use Rattle.recording.proofs.word_at.Goals as goal
 
 pub returns : goal.returns
 unfolding file_word
-returns c = c.get4.ensures
+returns c = c.load.ensures

@@ -1,7 +1,29 @@
-use Rattle.text.proofs.Templates.{replay_filled, replay_is}
-use Rattle.text.specs.Buffers.{holds_is}
-use mathlib.Core.Path.{ap, ◌∙◌}
+use Rattle.std.proofs.Common.{append_assoc}
+use Rattle.text.specs.Lines.{replay_lines}
+use Rattle.text.proofs.Lines.{state_is}
 use Rattle.text.proofs.replay_lines.Goals as goal
 
 pub returns : goal.returns
-returns c = holds_is (ap (replay_filled c.args.a.state) c.parts_of-parts.ensures ∙ replay_is c.args.a.state c.args.a.reply) c.fill.ensures
+unfolding replay_lines
+returns c =
+    rw (
+      c.put-3.ensures,
+      c.put_value-5.ensures.text,
+      append_assoc,
+      c.put-2.ensures,
+      append_assoc,
+      c.put.ensures,
+      append_assoc,
+      c.put_value-4.ensures.text,
+      append_assoc,
+      c.put_value-3.ensures.text,
+      append_assoc,
+      c.put_value-2.ensures.text,
+      append_assoc,
+      c.put_value.ensures.text,
+      append_assoc,
+      c.new-text.ensures,
+      c.state_word.ensures,
+      c.parts_of-parts.ensures,
+      state_is c.args.a.reply,
+    )

@@ -2,8 +2,15 @@ use Rattle.std.proofs.Common.{length-take, arith}
 use Rattle.tracing.specs.Trace.{steps_reached}
 use Rattle.trace.proofs.do_record.Goals as goal
 
-pub returns : goal.returns
-returns g c =
-    steps_reached _ _ _ _ _ _
-    (omega (arith, length-take c.read-got.result.bytes c.read-got.new.buf, c.read-got.auto.buf, c.empty_record-part.ensures))
+pub returns-in-Ok-write : goal.returns-in-Ok-write
+returns-in-Ok-write g c =
+    steps_reached _ _ _ _ _
+    (omega (arith, length-take c.in-Ok.n c.read.new.buf, c.read.auto.buf, c.empty_record-part.ensures))
     c.next_step-step.ensures
+
+pub returns-in-Err : goal.returns-in-Err
+returns-in-Err g c =
+    rw c.state.ensures
+    (steps_reached _ _ _ _ _
+    (omega (arith, length-take c.in-Ok.n c.read.new.buf, c.read.auto.buf, c.empty_record-part.ensures))
+    c.next_step-step.ensures)

@@ -1,26 +1,22 @@
-use Rattle.tracing.specs.Trace.{held, whole_record, steps_last, steps_store, steps_call}
-use lib.ListN.{length}
-use mathlib.Core.Path.{sym, ◌∙◌}
-use native.Mathlib.Omega.{arith}
+use Rattle.tracing.specs.Trace.{held, steps_last, steps_store, steps_call}
+use Rattle.tracing.proofs.Records.{none_bad, some_good, store_is, called_is, op_most, same_call}
+use Rattle.std.proofs.Common.{refl, length}
 use Rattle.tracing.proofs.next_step.Goals as goal
 
-pub returns-then-bad : goal.returns-then-bad
-returns-then-bad c = steps_last c.args.part.now (held c.args.s c.args.ring.now c.args.frame.now) (sym c.is_bad_record-bad.ensures ∙ c.if-bad.true) c.last_line-length.ensures
+pub returns-in-None : goal.returns-in-None
+returns-in-None c =
+    steps_last c.args.part.now (held c.args.s c.args.ring.now c.args.frame.now) (none_bad _ _ c.in-None.ensures) c.last_line.ensures
 
-pub word_at-op-requires : goal.word_at-op-requires
-word_at-op-requires c = omega (arith, (whole_record c.args.part.now (length c.args.ring.now) (sym c.is_bad_record-bad.ensures ∙ c.if-bad.false)).0)
+pub returns-in-Some-Store : goal.returns-in-Some-Store
+returns-in-Some-Store c =
+    let g = some_good c.args.part.now (length c.args.ring.now) _ c.in-Some-Store.ensures in
+    let s = store_is _ _ _ _ _ (rw c.in-Some-Store.field-0-is at g.1) in
+    rw c.new.ensures (steps_store c.args.part.now (held c.args.s c.args.ring.now c.args.frame.now) g.0 refl s.1 s.0 _ s.2)
 
-pub word_at-a-requires : goal.word_at-a-requires
-word_at-a-requires c = omega (arith, (whole_record c.args.part.now (length c.args.ring.now) (sym c.is_bad_record-bad.ensures ∙ c.if-bad.false)).0)
-
-pub word_at-requires : goal.word_at-requires
-word_at-requires c = omega (arith, (whole_record c.args.part.now (length c.args.ring.now) (sym c.is_bad_record-bad.ensures ∙ c.if-bad.false)).0)
-
-pub bounds-ring-at : goal.bounds-ring-at
-bounds-ring-at c = rw c.word_at-a.ensures ((whole_record c.args.part.now (length c.args.ring.now) (sym c.is_bad_record-bad.ensures ∙ c.if-bad.false)).1 (sym c.word_at-op.ensures ∙ c.if-op-eq0.true))
-
-pub returns-then-op-eq0 : goal.returns-then-op-eq0
-returns-then-op-eq0 c = steps_store c.args.part.now (held c.args.s c.args.ring.now c.args.frame.now) (sym c.is_bad_record-bad.ensures ∙ c.if-bad.false) c.word_at-op.ensures c.word_at-a.ensures c.if-op-eq0.true _ c.word_at.ensures
-
-pub returns : goal.returns
-returns c = steps_call c.args.part.now (held c.args.s c.args.ring.now c.args.frame.now) (sym c.is_bad_record-bad.ensures ∙ c.if-bad.false) c.word_at-op.ensures c.word_at-a.ensures c.if-op-eq0.false c.call_step.ensures
+pub returns-in-Some-Called : goal.returns-in-Some-Called
+returns-in-Some-Called c =
+    let t = held c.args.s c.args.ring.now c.args.frame.now in
+    let g = some_good c.args.part.now (length c.args.ring.now) _ c.in-Some-Called.ensures in
+    let s = called_is _ _ _ c.in-Some-Called.call (rw c.in-Some-Called.field-0-is at g.1) in
+    steps_call c.args.part.now t g.0 refl refl s.0
+    (rw (← same_call _ _ t s.0 (op_most _ _ g.0), ← s.1) c.call_step.ensures)
