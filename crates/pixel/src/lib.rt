@@ -20,7 +20,7 @@ pub use width::Pixel;
 
 // ---- any depth
 
-// The value of the pixel at a byte of frame memory, at any depth.
+// The value of the pixel at a byte of frame memory, at any depth. (It gives a value and `put` takes one: each has the choice once.)
 pub fn get(depth: usize, f: &[u8], at: usize) -> u32
     requires { (Depth depth) × (at + depth ≤ length f.now) }
     ensures { result ≡ read_pixel depth f.now at }

@@ -96,7 +96,7 @@ pub fn blend(row: &mut [u8], depth: usize, b: Blend<u32>)
 
 // ---- one of two blends, by eight bits that come round
 
-// Eight bits with what becomes of the pixels that they say, both no wider than the pixels need: or the compiler widens each pixel to four
+// Eight bits, in two bytes, with what becomes of the pixels that they say, as wide as these: or the compiler widens each pixel to four
 // bytes.
 #[derive(Clone, Copy)]
 struct ByBits<P> {
@@ -117,20 +117,32 @@ impl<P: Pixel> ByBits<P> {
         }
     }
 
-    // Applies to n pixels from a byte on the blends that their bits say. Callers say n by a number or as a remainder by eight, so that the
-    // compiler knows whether it is to make wide loads and stores of them. Each value is picked for itself: a blend picked whole is one
-    // number to the compiler, and no lanes are made of it.
-    fn write(self, row: &mut [u8], at: usize, n: usize)
-        requires { at + n * P.BYTES ≤ length row.old }
-        ensures { row.new ≡ changed_row P.BYTES (mark_rule self.bits (P.number self.inks.set.flip) (P.number self.inks.set.keep) (P.number self.inks.clear.flip) (P.number self.inks.clear.keep)) n at row.old }
+    // Applies to N pixels from a byte on the blends that their bits say. N is a part of the function, so that the compiler makes N lanes of it
+    // before it sees what the blends were narrowed from. Each value is picked for itself: a blend picked whole is one number to the compiler.
+    fn lanes<const N: usize>(self, row: &mut [u8], at: usize)
+        requires { at + N * P.BYTES ≤ length row.old }
+        ensures { row.new ≡ changed_row P.BYTES (mark_rule self.bits (P.number self.inks.set.flip) (P.number self.inks.set.keep) (P.number self.inks.clear.flip) (P.number self.inks.clear.keep)) N at row.old }
     {
         let ByBits { bits, inks } = self;
         let Inks { set, clear } = inks;
-        for k in 0..n {
+        for k in 0..N {
             let flip = pixel::pick(bits, k, set.flip, clear.flip);
             let keep = pixel::pick(bits, k, set.keep, clear.keep);
             let a = at + k * P::BYTES;
             P::load(row, a).blend(flip, keep).store(row, a);
+        }
+    }
+
+    // The same to n pixels, one by one. Callers say n as a remainder by eight, so that the compiler knows that they are few and makes no wide
+    // loop for them: (b) by `lanes` of a number that is not known text took half as long again (bench/run, text CC at 8 bits).
+    fn few(self, row: &mut [u8], at: usize, n: usize)
+        requires { at + n * P.BYTES ≤ length row.old }
+        ensures { row.new ≡ changed_row P.BYTES (mark_rule self.bits (P.number self.inks.set.flip) (P.number self.inks.set.keep) (P.number self.inks.clear.flip) (P.number self.inks.clear.keep)) n at row.old }
+    {
+        for k in 0..n {
+            self.inks
+                .choose(u32::from(self.bits), k)
+                .apply(row, at + k * P::BYTES);
         }
     }
 
@@ -142,7 +154,7 @@ impl<P: Pixel> ByBits<P> {
     {
         let tiles = row.len() / P::BYTES / 32;
         for t in 0..tiles {
-            self.write(row, t * 32 * P::BYTES, 32);
+            self.lanes::<32>(row, t * 32 * P::BYTES);
         }
         32 * tiles
     }
@@ -154,7 +166,7 @@ impl<P: Pixel> ByBits<P> {
         ensures { row.new ≡ in_order (changed_at P.BYTES (mark_rule self.bits (P.number self.inks.set.flip) (P.number self.inks.set.keep) (P.number self.inks.clear.flip) (P.number self.inks.clear.keep)) 0) k (whole_eights (length row.old / P.BYTES) - k) row.old }
     {
         for m in 0..(row.len() / P::BYTES - k) / 8 {
-            self.write(row, (k + m * 8) * P::BYTES, 8);
+            self.lanes::<8>(row, (k + m * 8) * P::BYTES);
         }
     }
 }
@@ -177,7 +189,7 @@ impl Work for AllMarks {
         let k = marks.tiles(row);
         marks.eights(row, k);
         let c = n % 8;
-        marks.write(row, (n - c) * P::BYTES, c);
+        marks.few(row, (n - c) * P::BYTES, c);
     }
 }
 
@@ -203,7 +215,7 @@ impl Work for EightMarks {
     ghost gives = { λ w depth. changed_row depth (mark_rule w.bits w.inks.set.flip w.inks.set.keep w.inks.clear.flip w.inks.clear.keep) 8 w.at };
 
     fn at<P: Pixel>(self, row: &mut [u8]) {
-        ByBits::<P>::of(self.bits, self.inks).write(row, self.at, 8);
+        ByBits::<P>::of(self.bits, self.inks).lanes::<8>(row, self.at);
     }
 }
 
@@ -230,7 +242,7 @@ impl Work for FewMarks {
     ghost gives = { λ w depth. changed_row depth (mark_rule w.bits w.inks.set.flip w.inks.set.keep w.inks.clear.flip w.inks.clear.keep) w.count w.at };
 
     fn at<P: Pixel>(self, row: &mut [u8]) {
-        ByBits::<P>::of(self.bits, self.inks).write(row, self.at, self.count);
+        ByBits::<P>::of(self.bits, self.inks).few(row, self.at, self.count);
     }
 }
 

@@ -16,5 +16,5 @@ returns g c = let number = g.P.Pixel.number in
     let round = mark_round bits (number inks.set.flip) (number inks.set.keep) (number inks.clear.flip) (number inks.clear.keep) in
     let same = same_row deep round row {n = length row / deep} c.tiles-k.ensures.inside c.tiles-k.ensures.written in
     let whole = then_rest deep round row (omega (arith, c.tiles-k.ensures.eights, c.tiles-k.ensures.inside)) c.tiles-k.ensures.written (rw same at c.eights.ensures) in
-    then_few deep round row (omega arith) whole (omega arith) (rw c.BYTES.ensures (omega arith)) (rw (c.BYTES.ensures, c.BYTES-2.ensures) refl) c.write.ensures
+    then_few deep round row (omega arith) whole (omega arith) (rw c.BYTES.ensures (omega arith)) (rw (c.BYTES.ensures, c.BYTES-2.ensures) refl) c.few.ensures
     ∙ mark_low deep narrow.set narrow.clear bits c.args.self.bits narrow.bits (length row / deep) 0 row

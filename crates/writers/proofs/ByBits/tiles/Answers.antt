@@ -12,7 +12,7 @@ loop-t-preserved g c = let number = g.P.Pixel.number in
     let more : (c.loop-t.t + 1) * 32 ≡ c.loop-t.t * 32 + 32 = omega arith in
     rw more
     (chunk_next g.P.Pixel.BYTES (mark_round c.args.self.bits (number inks.set.flip) (number inks.set.keep) (number inks.clear.flip) (number inks.clear.keep)) 0 32 c.loop-t.invariant
-    (omega (arith, c.loop-t-test.true)) (omega arith) (rw c.BYTES-in-loop-t.ensures (omega arith)) c.write.ensures)
+    (omega (arith, c.loop-t-test.true)) (omega arith) (rw c.BYTES-in-loop-t.ensures (omega arith)) c.lanes.ensures)
 
 pub returns-clause-written : goal.returns-clause-written
 returns-clause-written g c = remain_none c.loop-t.invariant (omega (arith, c.loop-t-test.false))

@@ -4,4 +4,4 @@ use Rattle.writers.proofs.FewMarksWork.at.Goals as goal
 
 pub returns : goal.returns
 returns g c = let narrow = c.of.ensures in
-    c.write.ensures ∙ mark_low g.P.Pixel.BYTES narrow.set narrow.clear c.of.result.bits c.args.self.bits narrow.bits c.args.self.count c.args.self.at c.args.row.now
+    c.few.ensures ∙ mark_low g.P.Pixel.BYTES narrow.set narrow.clear c.of.result.bits c.args.self.bits narrow.bits c.args.self.count c.args.self.at c.args.row.now
