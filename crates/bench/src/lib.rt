@@ -52,7 +52,8 @@ fn call_of(kind: u8, position: usize, budget: u32) -> Call
     }
 }
 
-// Performs such a list of calls from a state on, as `drive::drive` does a list of `Call`s: there is no memory to make one in.
+// Performs such a list of calls from a state on, as `drive::drive` does a list of `Call`s: C has no enum and no list of them, and there is
+// no memory to make one in.
 fn drive_numbers(
     ring: &[u32],
     frame: &mut [u8],

@@ -1,8 +1,7 @@
 -- The value that serves as the source of every pixel, if one does.
 use Rattle.std.specs.Prelude.{ℕ, ◌≡◌, Bool, true, false, Some, None, is_some, if◌then◌else◌}
 use Rattle.std.specs.declared.option.Option.{Option}
-use Rattle.std.proofs.Common.{refl, sym, ◌∙◌}
-use Rattle.model.proofs.Raster.{raster_pattern}
+use Rattle.std.proofs.Common.{refl}
 use Rattle.model.specs.declared.Source.{Source}
 use Rattle.laws.specs.Plain.{Plain, is_plain, plain_value, plain}
 
@@ -25,11 +24,3 @@ module _ (code : ℕ) (s : Source) where
           → Plain code s (plain_value s)
       go true p f = p refl
       go false p f = absurd cc
-
-  -- under F0h any value does: 0 too
-  pub serves_fill : code ≡ 0xF0 → {value : ℕ} → Plain code s value → Plain code s 0
-  serves_fill e p = record {
-    serves = λ i j frame.
-        let o = p.serves i j frame in
-        (o.0, o.1, λ m q d. rw e (raster_pattern m q o.0 d ∙ sym (raster_pattern m q 0 d)));
-  }

@@ -256,7 +256,7 @@ pub fn is_full(p: Pattern) -> bool
 }
 
 // Draws n pixels with a solid pattern for which one value serves as the source.
-#[tactic(auto, using(crate::proofs::Serving::serves_fill), unfolding(model::specs::BltPixel::draw_blt))]
+#[tactic(auto, using(blocks::specs::Plains::serves_fill), unfolding(model::specs::BltPixel::draw_blt))]
 fn draw_solid(f: &mut [u8], b: Blt, color: u32, value: u32, k: usize, n: usize)
     requires band { Band (length f.old) b k n }
     requires solid { b.pattern ≡ Solid color }

@@ -21,6 +21,7 @@ fn ends(ring: &[u32], frame: &mut [u8], lines: &[u8]) -> bool {
     text.as_bytes() == lines
 }
 
+// The cases stand one by one, each with its own values, to be read beside the paper.
 fn is_drawn_at_12() -> bool {
     let ring = fill(12, 1);
     let mut frame = [0u8; 16];

@@ -197,7 +197,7 @@ pub fn read_after(size: usize, read: usize, length: usize, w: bool) -> usize
 
 // What stands at the read pointer: a command of which too few words wait, one that its header or its count word refuses, or a whole
 // one: a data command with its count and its W, or, with where the read pointer stands after it, a table load with its count, or any
-// other with what it draws. Three of the five have values of their own, so an Option or a Result would hold such an enum too.
+// other with what it draws. Three have values of their own beside the refusal, so an Option or a Result would hold such an enum too.
 #[derive(Clone, Copy)]
 pub enum Seen {
     Waits,

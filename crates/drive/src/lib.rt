@@ -18,7 +18,7 @@ pub enum Call {
     Restart,
 }
 
-// Makes a call.
+// Makes a call. (`tracing::ask` makes those of a trace, and promises by their ops.)
 fn answer(call: Call, ring: &[u32], s: State, frame: &mut [u8]) -> Answer
     ensures answer { result ≡ answer_of ring.now (call_of call) (start s frame.old) }
     ensures frame { frame.new ≡ frame_of ring.now (call_of call) (start s frame.old) }

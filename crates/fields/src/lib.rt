@@ -17,7 +17,7 @@ pub fn bits(word: u32, high: u32, low: u32) -> u32
     (word >> low) % (1 << width)
 }
 
-// The same as a size or a place.
+// The same as a size or a place, which are `usize` everywhere above.
 pub fn number(word: u32, high: u32, low: u32) -> usize
     requires { (low ≤ high) × (high < 32) × (high < low + 31) }
     ensures { (result ≡ field word high low) × (result < 2 ^ (high + 1 - low)) }

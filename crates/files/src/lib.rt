@@ -1,7 +1,10 @@
 // Input and output of the programs. What fails is said in a line on standard error.
 #![tactic(auto)]
 
+ghost use Rattle.std.specs.Prelude.{IfErr};
 ghost use Rattle.std.specs.Io.{ReadsAtMost};
+ghost use Rattle.io.specs.Counts.{IsPrefixLen};
+ghost use Rattle.files.specs.declared.Cut.{Cut};
 
 use std::env::FillError;
 use std::fs::File;
@@ -68,17 +71,27 @@ pub fn open<R: Files + Env + Eprint, I: Drop>(
     }
 }
 
+// Reading failed after so many bytes, and the line that says why is written.
+#[derive(Clone, Copy, Debug)]
+pub struct Cut {
+    pub bytes: usize,
+}
+
 // Reads until a buffer is full or the input ends: how many bytes it put into the buffer. (It counts what came, which no range or
 // iterator gives; `read_exact` fails where the input ends early.)
-pub fn read<R: Eprint, S: Read>(rt: &R, source: &mut S, buf: &mut [u8]) -> Result<usize, Said>
-    ensures { ReadsAtMost result buf.new }
+pub fn read<R: Eprint, S: Read>(rt: &R, source: &mut S, buf: &mut [u8]) -> Result<usize, Cut>
+    ensures whole { ReadsAtMost result buf.new }
+    ensures cut { IfErr result (λ (cut : Cut). IsPrefixLen cut.bytes buf.new) }
 {
     let mut done = 0;
     while done < buf.len() {
         match source.read(&mut buf[done..]) {
             Ok(0) => break,
             Ok(n) => done += n,
-            Err(error) => return Err(say(rt, "cannot read the input", &error)),
+            Err(error) => {
+                say(rt, "cannot read the input", &error);
+                return Err(Cut { bytes: done });
+            }
         }
     }
     Ok(done)

@@ -39,7 +39,7 @@ fn piece(f: &mut [u8], op: Operation, from: usize, to: usize)
 
 // ---- pieces of a row
 
-// The pixels of a piece.
+// The pixels of a piece: a number for each depth.
 fn piece_of(depth: usize) -> usize
     requires { Depth depth }
     ensures some { 0 < result }
@@ -52,7 +52,7 @@ fn piece_of(depth: usize) -> usize
     }
 }
 
-// A colour, as often as it goes into a word.
+// A colour, as often as it goes into a word: a rule for each depth.
 fn repeat(depth: usize, color: u32) -> u32
     ensures { result ≡ repeated depth color }
 {
@@ -99,7 +99,7 @@ fn pieces(f: &mut [u8], b: Blt, op: Operation, s: Rectangle, i: usize, j: usize,
 
 // ---- rows
 
-// Combines n pixels one after the other: each finds its source as it then stands.
+// Combines n pixels one after the other: each finds its source as it then stands. (`moves::smear` goes the same way, and stores.)
 fn in_order(f: &mut [u8], b: Blt, op: Operation, s: Rectangle, i: usize, j: usize, n: usize)
     requires { (Row (length f.old) b i j n) × (0 < n) × (Ready b s op.code op.pattern) }
     ensures { f.new ≡ row_pixels b i j n f.old }

@@ -67,7 +67,8 @@ fn source_value(f: &[u8], s: Source, i: usize, j: usize) -> Option<u32>
 
 // ---- patterns
 
-// The mono pattern's bit there.
+// The mono pattern's bit there: one, where `rows::mono_bits` has eight. (`FitPattern` stands in the contracts: registers that judging
+// refuses give patterns without it.)
 #[tactic(auto, unfolding(model::specs::BltPixel::mono_bit))]
 fn mono_bit(p: MonoPattern, d: Rectangle, i: usize, j: usize) -> u32
     requires { (FitPattern (Mono p)) × (i < 2 ^ 32) × (j < 2 ^ 32) }

@@ -42,6 +42,7 @@ struct Head {
 }
 
 // None of a bad recording.
+#[tactic(auto, using(crate::proofs::Files::short_bad), unfolding(crate::specs::Recording::bad_recording))]
 fn head_of(file: &[u8]) -> Option<Head>
     ensures { result ≡ good_head file.now }
 {
@@ -72,6 +73,7 @@ fn read_words(file: &[u8], ring: &mut [u32])
 }
 
 // Takes a recording out of a file: its first words, and its ring into the first part of a buffer. None of a bad one.
+#[tactic(auto, using(crate::proofs::Files::taken, crate::proofs::Files::ring_in, crate::proofs::Files::words_in, crate::proofs::Files::loaded))]
 fn load(file: &[u8], ring: &mut [u32]) -> Option<Head>
     requires { ring_limit ≤ length ring.old }
     ensures { Loads file.now ring.new result }
@@ -94,6 +96,7 @@ pub fn is_refused(a: Answer) -> bool
 }
 
 // One publish and one run: the answer of the run, or of the publish where it is refused.
+#[tactic(auto, unfolding(crate::specs::Replay::played, crate::specs::Replay::played_frame))]
 fn publish_and_run(ring: &[u32], s: State, frame: &mut [u8], write: usize, budget: u32) -> Answer
     ensures answer { result ≡ played ring.now s frame.old write budget }
     ensures frame { frame.new ≡ played_frame ring.now s frame.old write budget }
@@ -107,6 +110,7 @@ fn publish_and_run(ring: &[u32], s: State, frame: &mut [u8], write: usize, budge
 }
 
 // Setup, one publish and one run: the answer of the run, or of the first call that is refused.
+#[tactic(auto, unfolding(crate::specs::Replay::replay, crate::specs::Replay::replay_frame))]
 pub fn replay(ring: &[u32], frame: &mut [u8], write: usize, budget: u32) -> Answer
     ensures answer { result ≡ replay ring.now frame.old write budget }
     ensures frame { frame.new ≡ replay_frame ring.now frame.old write budget }
@@ -157,6 +161,7 @@ fn play(head: Head, ring: &[u32], frame: &mut [u8]) -> Answer
 // The lines of a replay of the file in the first n bytes of a buffer, which becomes frame memory. (File, ring and frame memory
 // together would be more than 64 KiB, so the two cannot be lent apart. The engine state, with its table of 2 KiB, is no buffer:
 // it goes in and comes back by value.)
+#[tactic(auto, using(crate::proofs::Files::frame_in, crate::proofs::Files::answer_is), unfolding(crate::specs::Recording::replay_text))]
 pub fn replay_text(memory: &mut [u8], n: usize) -> Text
     requires within { IsPrefixLen n memory.old }
     requires room { frame_limit ≤ length memory.old }
@@ -174,6 +179,7 @@ pub fn replay_text(memory: &mut [u8], n: usize) -> Text
 }
 
 // Frame memory after a replay, in the first part of the same buffer.
+#[tactic(auto, using(crate::proofs::Files::frame_in, crate::proofs::Files::frame_is, crate::proofs::Files::written_is, crate::proofs::Files::size_most), unfolding(crate::specs::Recording::frame_bytes))]
 pub fn replay_frame(memory: &mut [u8], n: usize) -> &[u8]
     requires within { IsPrefixLen n memory.old }
     requires room { frame_limit ≤ length memory.old }

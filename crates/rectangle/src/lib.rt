@@ -83,7 +83,7 @@ pub fn next(a: Axis, at: usize) -> usize
     }
 }
 
-// The column of pixel k, most often 0.
+// The column of pixel k. Most commands begin at pixel 0, where a division would be felt.
 pub fn column_of(k: usize, width: usize) -> usize
     requires { 0 < width }
     ensures { result ≡ k % width }
@@ -91,7 +91,7 @@ pub fn column_of(k: usize, width: usize) -> usize
     if k == 0 { 0 } else { k % width }
 }
 
-// Its row.
+// Its row, likewise.
 pub fn row_of(k: usize, width: usize) -> usize
     requires { 0 < width }
     ensures { result ≡ k / width }

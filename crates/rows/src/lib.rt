@@ -1,7 +1,9 @@
 // Rows of a BLT: n pixels of row j, from column i. One loop serves every source and pattern; faster ones stand beside it, behind
 // the same contract.
 // What a row asks (`Row .. b i j n`) ties frame memory, BLT and place, which are lent apart, so it stands in the contracts and in no type.
-// The place is three numbers, since each row counts on from them; a struct would be taken apart at once.
+// The place is three numbers, since each row counts on from them; a struct would be taken apart at once. `Solid`, `Frame`, a code, `Plain`
+// and `is_full` say which row it is, here and in `moves`, `mixes` and `glyphs`; the painters above keep them as fields. `0 < n` and
+// `i < 2 ^ 32` are bounds of plain numbers.
 #![tactic(auto)]
 
 ghost use Rattle.std.specs.Prelude.{◌≡◌, ◌^◌, ◌<◌, length};

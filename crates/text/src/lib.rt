@@ -58,7 +58,7 @@ impl Text {
         self.length = end;
     }
 
-    // A number's decimal digits.
+    // A number's decimal digits. (Beside the hexadecimal ones: the library has a function for each.)
     fn put_decimal(&mut self, n: u64)
         requires { length self.old + 20 ≤ buffer_length }
         ensures text { self.new ≡ self.old ++ decimal n }
@@ -237,7 +237,7 @@ pub fn bad_line() -> Text
     text
 }
 
-// The line of a call of a trace and its answer. The call is setup where the op is 0.
+// The line of a call of a trace and its answer. The call is setup where the op is 0. (A number: it promises its line for every one.)
 pub fn call_line(op: u32, a: Answer) -> Text
     ensures { result ≡ call_line op a }
 {

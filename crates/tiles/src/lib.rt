@@ -27,7 +27,7 @@ pub struct Tile {
 
 // ---- the tile
 
-// The low bytes of a number, as many as a pixel has.
+// The low bytes of a number, as many as a pixel has. (What `Pixel::low` gives, where the width is a number still.)
 pub fn low_bytes(v: u32, depth: usize) -> u32
     requires { Depth depth }
     ensures { result ≡ v % 2 ^ (8 * depth) }
@@ -75,7 +75,7 @@ pub fn tile_of(table: &[u32; TABLE], depth: usize) -> [[u32; 8]; 8]
 
 // ---- row writers: eight colours in turn
 
-// Stores the first c at the pixels from a byte on.
+// Stores the first c at the pixels from a byte on: values in turn, where `writers::few` blends by bits.
 fn few(row: &mut [u8], depth: usize, at: usize, colors: [u32; 8], c: usize)
     requires { (Depth depth) × (c ≤ 8) × (at + c * depth ≤ length row.old) }
     ensures { row.new ≡ changed_row depth (λ m old. get_or colors (m % 8) 0) c at row.old }
@@ -145,7 +145,8 @@ fn store_all(row: &mut [u8], depth: usize, colors: [u32; 8])
     few(row, depth, (n - c) * depth, colors, c);
 }
 
-// The same. The compiler makes a loop of its own for each depth that it is told.
+// The same. The compiler makes a loop of its own for each depth that it is told. (Eight bytes are laid at once whatever the depth, so no
+// `Work` of `writers` over the pixel's type is made of it.)
 fn store(row: &mut [u8], depth: usize, colors: [u32; 8])
     requires { Depth depth }
     ensures { row.new ≡ changed_row depth (λ m old. get_or colors (m % 8) 0) (length row.old / depth) 0 row.old }

@@ -354,7 +354,7 @@ fn advance(
 }
 
 // As many such units as can be done one after the other, and as the budget allows. This loop does not know data commands: it is the one
-// that has to be fast.
+// that has to be fast. (No index is counted: each turn says how many units it was.)
 fn do_plain(
     c: Core,
     write: usize,
@@ -422,7 +422,8 @@ fn advance_both(
     })
 }
 
-// Does units until no further one can be done or the budget is used, from where none can be done without a BLT that takes data.
+// Does units until no further one can be done or the budget is used, from where none can be done without a BLT that takes data. (Beside
+// `do_plain` it has another turn and another promise; one loop for both would be handed both.)
 fn go_on(
     c: Core,
     write: usize,

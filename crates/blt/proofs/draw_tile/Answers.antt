@@ -1,5 +1,6 @@
 use mathlib.Core.Path.{sym, ◌∙◌}
-use Rattle.blt.proofs.Serving.{serves_some, serves_fill}
+use Rattle.blocks.specs.Plains.{serves_fill}
+use Rattle.blt.proofs.Serving.{serves_some}
 use Rattle.blt.proofs.draw_tile.Goals as goal
 
 pub invariant_of-paint : goal.invariant_of-paint
