@@ -5,13 +5,13 @@ ghost use Rattle.std.specs.Prelude.{◌≡◌, [], ◌+◌, ◌*◌, ◌/◌, �
 ghost use Rattle.model.specs.Formats.{Depth};
 ghost use Rattle.model.specs.Lookup.{tile_color};
 ghost use Rattle.model.specs.BltPixel.{with_color};
-ghost use Rattle.model.specs.Pixel.{read_pixel, store_pixel};
-ghost use Rattle.laws.specs.Moves.{Laid};
+ghost use Rattle.model.specs.Pixel.{store_pixel};
 ghost use Rattle.laws.specs.Rows.{Row};
 ghost use Rattle.laws.specs.Changes.{changed_row};
 ghost use Rattle.laws.specs.Eights.{whole_eights};
 ghost use Rattle.laws.specs.Plain.{Served};
 ghost use Rattle.laws.specs.Tiles.{up_to, tile_of, color_in, tile_row, Colors};
+ghost use Rattle.tiles.specs.Packed.{two, word_of, halves_of};
 
 use model::{Blt, Pattern, Rectangle, TABLE, TILE};
 
@@ -85,52 +85,115 @@ fn few(row: &mut [u8], depth: usize, at: usize, colors: [u32; 8], c: usize)
     }
 }
 
-// The eight bytes from one on, as a number.
-fn get8(bytes: &[u8; 32], at: usize) -> u64
-    requires { at + 8 ≤ 32 }
-    ensures { result ≡ read_pixel 8 bytes.now at }
-{
-    u64::from_le_bytes([
-        bytes[at],
-        bytes[at + 1],
-        bytes[at + 2],
-        bytes[at + 3],
-        bytes[at + 4],
-        bytes[at + 5],
-        bytes[at + 6],
-        bytes[at + 7],
-    ])
-}
-
 // Writes all eight bytes of a number at a byte of a row.
 fn put8(row: &mut [u8], at: usize, value: u64)
     requires { at + 8 ≤ length row.old }
     ensures { row.new ≡ store_pixel 8 row.old at value }
 {
-    row[at..at + 8].copy_from_slice(&value.to_le_bytes());
+    let b = at + 1;
+    let c = b + 1;
+    let d = c + 1;
+    let e = d + 1;
+    let g = e + 1;
+    let h = g + 1;
+    let i = h + 1;
+    row[at] = (value % 256) as u8;
+    row[b] = (value / 256 % 256) as u8;
+    row[c] = (value / 256 / 256 % 256) as u8;
+    row[d] = (value / 256 / 256 / 256 % 256) as u8;
+    row[e] = (value / 256 / 256 / 256 / 256 % 256) as u8;
+    row[g] = (value / 256 / 256 / 256 / 256 / 256 % 256) as u8;
+    row[h] = (value / 256 / 256 / 256 / 256 / 256 / 256 % 256) as u8;
+    row[i] = (value / 256 / 256 / 256 / 256 / 256 / 256 / 256 % 256) as u8;
 }
 
-// Lays the bytes of eight pixels at a byte of a row, eight bytes at once: the compiler keeps them in registers and makes wide stores of
-// them, where it reads them anew at each turn of a loop that lays them by one copy.
-fn eight(row: &mut [u8], depth: usize, at: usize, bytes: &[u8; 32])
-    requires deep { Depth depth }
-    requires room { at + 8 * depth ≤ length row.old }
-    ensures { Laid bytes.now 0 at 0 (8 * depth) row.old row.new }
+// Stores two words, one after the other, at once.
+fn pair(row: &mut [u8], at: usize, low: u32, high: u32)
+    requires { at + 8 ≤ length row.old }
+    ensures { row.new ≡ two 4 row.old at low high }
 {
-    for w in 0..depth {
-        put8(row, at + 8 * w, get8(bytes, 8 * w));
-    }
+    let value = low as u64 + 4294967296 * (high as u64);
+    put8(row, at, value);
 }
 
-// Stores all eight, again and again, at as many pixels of a row as make whole eights: their bytes are made once.
+// Four colours of one byte as a word.
+fn word(colors: [u32; 8], x: usize) -> u32
+    requires { x + 4 ≤ 8 }
+    ensures { result ≡ word_of colors x }
+{
+    let upper = colors[x + 2] % 256 + 256 * (colors[x + 3] % 256);
+    colors[x] % 256 + 256 * (colors[x + 1] % 256 + 256 * upper)
+}
+
+// Two colours of two bytes as a word.
+fn halves(colors: [u32; 8], x: usize) -> u32
+    requires { x + 2 ≤ 8 }
+    ensures { result ≡ halves_of colors x }
+{
+    colors[x] % 65536 + 65536 * (colors[x + 1] % 65536)
+}
+
+// Stores all eight colours at pixels of one byte. (A function for each depth, and a `while` over them: the bytes of all eight, made once and
+// laid anew for every depth, took up to eight times as long in long rows, `colour F0` in bench/run.)
+fn eight1(row: &mut [u8], at: usize, colors: [u32; 8])
+    requires { at + 8 ≤ length row.old }
+    ensures { row.new ≡ changed_row 1 (λ m old. get_or colors (m % 8) 0) 8 at row.old }
+{
+    let low = word(colors, 0);
+    let high = word(colors, 4);
+    pair(row, at, low, high);
+}
+
+// The same of two bytes.
+fn eight2(row: &mut [u8], at: usize, colors: [u32; 8])
+    requires { at + 16 ≤ length row.old }
+    ensures { row.new ≡ changed_row 2 (λ m old. get_or colors (m % 8) 0) 8 at row.old }
+{
+    let a = halves(colors, 0);
+    let b = halves(colors, 2);
+    let c = halves(colors, 4);
+    let d = halves(colors, 6);
+    pair(row, at, a, b);
+    pair(row, at + 8, c, d);
+}
+
+// The same of four bytes.
+fn eight4(row: &mut [u8], at: usize, colors: [u32; 8])
+    requires { at + 32 ≤ length row.old }
+    ensures { row.new ≡ changed_row 4 (λ m old. get_or colors (m % 8) 0) 8 at row.old }
+{
+    pair(row, at, colors[0], colors[1]);
+    pair(row, at + 8, colors[2], colors[3]);
+    pair(row, at + 16, colors[4], colors[5]);
+    pair(row, at + 24, colors[6], colors[7]);
+}
+
+// Stores all eight at the pixels from a byte on.
+fn eight(row: &mut [u8], depth: usize, at: usize, colors: [u32; 8])
+    requires { (Depth depth) × (at + 8 * depth ≤ length row.old) }
+    ensures { row.new ≡ changed_row depth (λ m old. get_or colors (m % 8) 0) 8 at row.old }
+{
+    if depth == 1 {
+        eight1(row, at, colors);
+        return;
+    }
+    if depth == 2 {
+        eight2(row, at, colors);
+        return;
+    }
+    eight4(row, at, colors);
+}
+
+// Stores all eight, again and again, at as many pixels of a row as make whole eights.
 fn eights(row: &mut [u8], depth: usize, colors: [u32; 8])
     requires { Depth depth }
     ensures { row.new ≡ changed_row depth (λ m old. get_or colors (m % 8) 0) (whole_eights (length row.old / depth)) 0 row.old }
 {
-    let mut bytes = [0u8; 32];
-    few(&mut bytes, depth, 0, colors, 8);
-    for i in 0..row.len() / depth / 8 {
-        eight(row, depth, 8 * i * depth, &bytes);
+    let n = row.len() / depth;
+    let mut i = 0;
+    while i + 8 <= n {
+        eight(row, depth, i * depth, colors);
+        i += 8;
     }
 }
 

@@ -1,13 +1,15 @@
-use Rattle.std.proofs.Common.{◌≡◌, ◌+◌, ◌*◌, rules, arith}
-use Rattle.laws.specs.Pixels.{Bytes}
-use Rattle.laws.specs.Moves.{laid_up, laid_pixel}
+use native.Mathlib.Omega.{arith}
+use Rattle.laws.specs.Pixels.{depth_last}
 use Rattle.tiles.proofs.eight.Goals as goal
 
-pub loop-w-preserved : goal.loop-w-preserved
-loop-w-preserved c =
-    let e : 8 * (c.loop-w.w + 1) ≡ 8 * c.loop-w.w + 8 = omega arith in
-    let fits : Bytes c.args.bytes.now = search rules in
-    rw e
-    (laid_up {m = 8 * c.loop-w.w} (omega arith) (omega arith) c.loop-w.invariant
-    (rw (c.put8.ensures, c.get8.ensures)
-    (laid_pixel fits 8 (omega arith) (omega arith) (omega arith) (omega (arith, c.loop-w.invariant.same, c.requires.room, c.loop-w-test.true)))))
+pub returns-then-depth-eq1 : goal.returns-then-depth-eq1
+returns-then-depth-eq1 c = rw c.if-depth-eq1.true c.eight1.ensures
+
+pub returns-then-depth-eq2 : goal.returns-then-depth-eq2
+returns-then-depth-eq2 c = rw c.if-depth-eq2.true c.eight2.ensures
+
+pub eight4-requires : goal.eight4-requires
+eight4-requires c = omega (arith, depth_last c.requires.0 c.if-depth-eq1.false c.if-depth-eq2.false, c.requires.1)
+
+pub returns : goal.returns
+returns c = rw (depth_last c.requires.0 c.if-depth-eq1.false c.if-depth-eq2.false) c.eight4.ensures
