@@ -8,7 +8,7 @@ use Rattle.model.specs.Calls.{setup}
 use Rattle.model.specs.Course.{Configuration, course}
 use Rattle.model.specs.Perform.{lent, start}
 use Rattle.model.specs.declared.Answer.{Answer}
-use Rattle.bench.specs.Calls.{calls_of}
+use Rattle.drive.specs.Numbers.{calls_of}
 use Rattle.drive.specs.Demanded.{Demanded}
 
 -- a position and a budget for each call, and the sum of units, at most 4,294,967,295 a call, in 64 bits

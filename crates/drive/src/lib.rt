@@ -5,6 +5,7 @@ ghost use Rattle.std.specs.Prelude.{◌≡◌, ◌+◌, ◌≤◌, ◌<◌, ◌^
 ghost use Rattle.model.specs.Calls.{units_of};
 ghost use Rattle.model.specs.Perform.{answer_of, frame_of, perform, start};
 ghost use Rattle.drive.specs.Calls.{call_of, configuration};
+ghost use Rattle.drive.specs.Numbers.{numbered_call, calls_of};
 ghost use Rattle.drive.specs.Demanded.{Demanded};
 
 use model::{Answer, Reply, State};
@@ -61,9 +62,47 @@ impl Driven {
     }
 }
 
-// Performs a list of calls, each getting what the last one left. What it returns has arrived, as demand 3 says: (a) always, (b) and
-// (c) where its hypotheses hold.
-pub fn drive(calls: &[Call], ring: &[u32], s: State, frame: &mut [u8]) -> Driven
+// The call that three numbers stand for.
+fn numbered_call(kind: u8, position: usize, budget: u32) -> Call
+    ensures { call_of result ≡ numbered_call kind position budget }
+{
+    match kind {
+        0 => Call::Publish(position),
+        1 => Call::Run(budget),
+        2 => Call::Room,
+        _ => Call::Restart,
+    }
+}
+
+// Performs a list of calls, each getting what the last one left: call i is of kind kinds[i], a publishing of positions[i] or a
+// run with budgets[i]. What it returns has arrived, as demand 3 says: (a) always, (b) and (c) where its hypotheses hold. (C has no
+// enum to hand over and no list of them, and there is no memory to make one in.)
+pub fn drive(
+    kinds: &[u8],
+    positions: &[usize],
+    budgets: &[u32],
+    ring: &[u32],
+    s: State,
+    frame: &mut [u8],
+) -> Driven
+    requires positions { length kinds.now ≤ length positions.now }
+    requires budgets { length kinds.now ≤ length budgets.now }
+    requires few { length kinds.now ≤ 4294967295 }
+    ensures { Demanded ring.now s frame.old (calls_of kinds.now positions.now budgets.now (length kinds.now) 0) (configuration result frame.new) }
+{
+    let mut driven = Driven { state: s, sum: 0 };
+    for i in 0..kinds.len() {
+        driven.perform(
+            numbered_call(kinds[i], positions[i], budgets[i]),
+            ring,
+            frame,
+        );
+    }
+    driven
+}
+
+// The same of a list of `Call`s.
+pub fn drive_calls(calls: &[Call], ring: &[u32], s: State, frame: &mut [u8]) -> Driven
     requires { length calls.now ≤ 4294967295 }
     ensures { Demanded ring.now s frame.old (map call_of calls.now) (configuration result frame.new) }
 {

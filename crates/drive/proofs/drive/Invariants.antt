@@ -1,11 +1,12 @@
-use Rattle.std.proofs.Common.{◌≡◌, ◌*◌, ◌≤◌, length, drop, map}
+use Rattle.std.proofs.Common.{◌≡◌, ◌*◌, ◌-◌, ◌≤◌, length}
 use Rattle.model.specs.Perform.{performs, lent}
-use Rattle.drive.specs.Calls.{call_of, configuration}
+use Rattle.drive.specs.Calls.{configuration}
+use Rattle.drive.specs.Numbers.{calls_of}
 use Rattle.drive.proofs.drive.Given as goal
 
-abbrev pub invariant-loop-call : goal.invariant-loop-call
-invariant-loop-call l = record {
-  small : l.driven.sum ≤ 4294967295 * l.call-index;
-  onward : performs (lent l.ring (map call_of l.calls)) (configuration l.initial.driven l.initial.frame)
-      ≡ performs (lent l.ring (map call_of (drop l.call-index l.calls))) (configuration l.driven l.frame);
+abbrev pub invariant-loop-i : goal.invariant-loop-i
+invariant-loop-i l = record {
+  small : l.driven.sum ≤ 4294967295 * l.i;
+  onward : performs (lent l.ring (calls_of l.kinds l.positions l.budgets (length l.kinds) 0)) (configuration l.initial.driven l.initial.frame)
+      ≡ performs (lent l.ring (calls_of l.kinds l.positions l.budgets (length l.kinds - l.i) l.i)) (configuration l.driven l.frame);
 }
