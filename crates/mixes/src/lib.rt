@@ -63,35 +63,40 @@ fn repeat(depth: usize, color: u32) -> u32
     }
 }
 
-// How far from the lowest byte of n pixels that of c of them lies, from number m on.
-fn offset(negative: bool, depth: usize, n: usize, m: usize, c: usize) -> usize
-    requires within { m + c ≤ n }
-    requires near { n * depth < 2 ^ 32 }
-    ensures { result ≡ low_place negative n m c * depth }
+// How far from the lowest byte of so many bytes piece k of `step` bytes lies, on its way along the row.
+fn offset(negative: bool, size: usize, step: usize, k: usize) -> usize
+    requires { step * k + step ≤ size }
+    ensures { result ≡ low_place negative size (step * k) step }
 {
     if negative {
-        (n - m - c) * depth
+        size - step * k - step
     } else {
-        m * depth
+        step * k
     }
 }
 
 // Combines the first of n pixels of row j, from column i, as many as make whole pieces, and says how many. None where a piece would
-// meet a byte that it has overwritten.
+// meet a byte that it has overwritten. (Places are counted in bytes: by pixels each piece would cost a multiplication. The step is worked
+// out and not written as 16, or the compiler joins pieces, and asks before each row whether that may be done.)
 fn pieces(f: &mut [u8], b: Blt, op: Operation, s: Rectangle, i: usize, j: usize, n: usize) -> usize
     requires { (Row (length f.old) b i j n) × (0 < n) × (Ready b s op.code op.pattern) }
     ensures { (result ≤ n) × (f.new ≡ row_pixels b i j result f.old) }
 {
     let d = b.destination;
     let c = piece_of(d.depth);
+    let step = c * d.depth;
+    let size = n * d.depth;
+    if size < 16 {
+        return 0;
+    }
     let from = rectangle::low_byte(s, i, j, n);
     let to = rectangle::low_byte(d, i, j, n);
     if !moves::is_clear(d.columns.negative, from, to, 16) {
         return 0;
     }
-    let count = n * d.depth / 16;
+    let count = size / 16;
     for k in 0..count {
-        let x = offset(d.columns.negative, d.depth, n, k * c, c);
+        let x = offset(d.columns.negative, size, step, k);
         piece(f, op, from + x, to + x);
     }
     count * c

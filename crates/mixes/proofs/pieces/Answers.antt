@@ -1,4 +1,5 @@
-use Rattle.std.proofs.Common.{ℕ, ◌≡◌, ◌+◌, ◌*◌, ◌/◌, ◌≤◌, ◌<◌, length, rules, sym, ap, ◌∙◌, ⊎_elim, arith, mul-le-mul_right, div-mul-le_self}
+use Rattle.std.proofs.Common.{ℕ, Bool, true, false, ◌-◌, ◌≡◌, ◌+◌, ◌*◌, ◌/◌, ◌≤◌, ◌<◌, length, rules, sym, ap, ◌∙◌, ⊎_elim, arith, mul-le-mul_right, div-mul-le_self}
+use Rattle.std.proofs.Math.Nat.{mul_comm, mul-sub}
 use Rattle.model.specs.Formats.{Depth}
 use Rattle.model.specs.BltPixel.{draw_at}
 use Rattle.laws.specs.Numbers.{less_or_not}
@@ -25,6 +26,16 @@ pieces_fit {depth} deep p c n whole l =
 next_fits : {depth : ℕ} → Depth depth → (k c n : ℕ) → c * depth ≡ 16 → k < n * depth / 16 → k * c + c ≤ n
 next_fits {depth} deep k c n whole l = omega (arith, pieces_fit deep (k + 1) c n whole (omega arith))
 
+-- places counted in bytes are those counted in pixels
+place_is : (depth : ℕ) (negative : Bool) (n k c : ℕ) → low_place negative (n * depth) (c * depth * k) (c * depth) ≡ low_place negative n (k * c) c * depth
+place_is depth true n k c =
+    let a : c * depth * k ≡ depth * (k * c) = omega arith in
+    let b : c * depth ≡ depth * c = omega arith in
+    let e : (n - k * c - c) * depth ≡ depth * n - depth * (k * c) - depth * c =
+    mul_comm (n - k * c - c) depth ∙ mul-sub depth (n - k * c) c ∙ ap (λ (x : ℕ). x - depth * c) (mul-sub depth n (k * c)) in
+    omega (arith, a, b, e)
+place_is depth false n k c = omega arith
+
 -- where piece k of them lies
 piece_there : {size : ℕ} {b : Blt} {i j n : ℕ} (r : Row size b i j n) → 0 < n → {s : Rectangle} {code pattern : ℕ} → Ready b s code pattern
     → {from to : ℕ} → from ≡ low_byte s i j n → to ≡ low_byte b.destination i j n → (k c : ℕ) → 0 < c → c * b.destination.depth ≡ 16
@@ -43,30 +54,29 @@ pub is_clear-requires : goal.is_clear-requires
 is_clear-requires c =
     omega (arith, copy_bytes c.requires.0 c.requires.1 c.requires.2.source c.low_byte-from.ensures c.low_byte-to.ensures, c.requires.0.small)
 
+pub returns-then-size-lt16 : goal.returns-then-size-lt16
+returns-then-size-lt16 c = (omega arith, sym (order_zero _ _ _))
+
 pub returns-then-not-is_clear : goal.returns-then-not-is_clear
 returns-then-not-is_clear c = (omega arith, sym (order_zero _ _ _))
 
 pub loop-k-init : goal.loop-k-init
 loop-k-init c = let z : 0 * c.piece_of-c.result ≡ 0 = omega arith in (search rules, rw z (sym (order_zero _ _ _)))
 
-pub overflow_mul-k : goal.overflow_mul-k
-overflow_mul-k c =
-    omega (arith, next_fits c.requires.0.fit.destination_fit.ranged.deep _ _ _ c.piece_of-c.ensures.whole c.loop-k-test.true, c.ranges.n.fits)
-
-pub offset-x-requires-clause-within : goal.offset-x-requires-clause-within
-offset-x-requires-clause-within c = next_fits c.requires.0.fit.destination_fit.ranged.deep _ _ _ c.piece_of-c.ensures.whole c.loop-k-test.true
+pub offset-x-requires : goal.offset-x-requires
+offset-x-requires c = omega (arith, ap (λ (x : ℕ). x * c.loop-k.k + x) c.piece_of-c.ensures.whole, c.loop-k-test.true)
 
 pub overflow_add-from : goal.overflow_add-from
 overflow_add-from c =
-    omega (arith, piece_there c.requires.0 c.requires.1 c.requires.2 c.low_byte-from.ensures c.low_byte-to.ensures c.loop-k.k c.piece_of-c.result c.piece_of-c.ensures.some c.piece_of-c.ensures.whole c.loop-k-test.true c.offset-x.ensures, c.requires.0.small)
+    omega (arith, piece_there c.requires.0 c.requires.1 c.requires.2 c.low_byte-from.ensures c.low_byte-to.ensures c.loop-k.k c.piece_of-c.result c.piece_of-c.ensures.some c.piece_of-c.ensures.whole c.loop-k-test.true (c.offset-x.ensures ∙ place_is c.args.b.destination.depth c.args.b.destination.columns.negative c.args.n c.loop-k.k c.piece_of-c.result), c.requires.0.small)
 
 pub overflow_add-to : goal.overflow_add-to
 overflow_add-to c =
-    omega (arith, piece_there c.requires.0 c.requires.1 c.requires.2 c.low_byte-from.ensures c.low_byte-to.ensures c.loop-k.k c.piece_of-c.result c.piece_of-c.ensures.some c.piece_of-c.ensures.whole c.loop-k-test.true c.offset-x.ensures, c.requires.0.small)
+    omega (arith, piece_there c.requires.0 c.requires.1 c.requires.2 c.low_byte-from.ensures c.low_byte-to.ensures c.loop-k.k c.piece_of-c.result c.piece_of-c.ensures.some c.piece_of-c.ensures.whole c.loop-k-test.true (c.offset-x.ensures ∙ place_is c.args.b.destination.depth c.args.b.destination.columns.negative c.args.n c.loop-k.k c.piece_of-c.result), c.requires.0.small)
 
 pub piece-requires : goal.piece-requires
 piece-requires c =
-    let w = piece_there c.requires.0 c.requires.1 c.requires.2 c.low_byte-from.ensures c.low_byte-to.ensures c.loop-k.k c.piece_of-c.result c.piece_of-c.ensures.some c.piece_of-c.ensures.whole c.loop-k-test.true c.offset-x.ensures in
+    let w = piece_there c.requires.0 c.requires.1 c.requires.2 c.low_byte-from.ensures c.low_byte-to.ensures c.loop-k.k c.piece_of-c.result c.piece_of-c.ensures.some c.piece_of-c.ensures.whole c.loop-k-test.true (c.offset-x.ensures ∙ place_is c.args.b.destination.depth c.args.b.destination.columns.negative c.args.n c.loop-k.k c.piece_of-c.result) in
     let l : length c.loop-k.f ≡ length c.args.f.now = ap length c.loop-k.invariant.1 ∙ length_row _ _ _ _ _ in
     (omega arith, omega arith)
 
@@ -76,7 +86,7 @@ loop-k-preserved c =
       search rules,
       rw e
           (c.piece.ensures
-          ∙ piece_drawn c.requires.0 c.requires.1 c.requires.2 c.low_byte-from.ensures c.low_byte-to.ensures (c.loop-k.k * c.piece_of-c.result) c.piece_of-c.result c.piece_of-c.ensures.some (next_fits c.requires.0.fit.destination_fit.ranged.deep _ _ _ c.piece_of-c.ensures.whole c.loop-k-test.true) c.piece_of-c.ensures.whole c.offset-x.ensures (c.is_clear.ensures c.if-not-is_clear.false) _ c.loop-k.invariant.0
+          ∙ piece_drawn c.requires.0 c.requires.1 c.requires.2 c.low_byte-from.ensures c.low_byte-to.ensures (c.loop-k.k * c.piece_of-c.result) c.piece_of-c.result c.piece_of-c.ensures.some (next_fits c.requires.0.fit.destination_fit.ranged.deep _ _ _ c.piece_of-c.ensures.whole c.loop-k-test.true) c.piece_of-c.ensures.whole (c.offset-x.ensures ∙ place_is c.args.b.destination.depth c.args.b.destination.columns.negative c.args.n c.loop-k.k c.piece_of-c.result) (c.is_clear.ensures c.if-not-is_clear.false) _ c.loop-k.invariant.0
           ∙ rw c.loop-k.invariant.1 (order_add (λ x. draw_at c.args.b x c.args.j) (c.loop-k.k * c.piece_of-c.result) c.args.i c.piece_of-c.result c.args.f.now)),
     )
 
