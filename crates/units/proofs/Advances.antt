@@ -1,8 +1,9 @@
 -- One turn of a run: the load of a command, or a span of pixels, takes as many units of the budget as it says.
-use Rattle.std.proofs.Common.{◌≡◌, ℕ, zero, suc, ◌+◌, ◌-◌, ◌<◌, ◌≤◌, Bool, true, false, not, List, length, Some, None, sym, refl, ap, ◌∙◌, add-zero, arith, ne_eqb, eqb-true}
+use Rattle.std.proofs.Common.{◌≡◌, ℕ, zero, suc, ◌+◌, ◌-◌, ◌<◌, ◌≤◌, Bool, true, false, not, List, length, sym, refl, ap, ◌∙◌, add-zero, arith, ne_eqb, eqb-true}
 use borrow.Author.Tests.{eqb-false}
 use Rattle.std.proofs.Common.{⊎_elim}
-use Rattle.std.proofs.lemmas.Option.{none-some, same_Some}
+use Rattle.std.specs.Bool.{then_some}
+use Rattle.std.specs.Prelude.{if◌then◌else◌}
 use Rattle.laws.specs.Numbers.{less_or_not}
 use Rattle.model.specs.Choice.{◌=?◌}
 use Rattle.model.proofs.Choice.{not_both}
@@ -19,7 +20,7 @@ use Rattle.laws.specs.Fit.{drawing_fit, fed_fit}
 use Rattle.laws.specs.WellFormed.{WellFormed, wellformed_unit, wellformed_units, length_pixel, length_host}
 use Rattle.laws.specs.Order.{order_length}
 use Rattle.laws.specs.Spans.{drawn_machine, units_span, fed_machine, units_fed}
-use Rattle.units.specs.Turns.{FitCore, load_unit, table_unit, command_core, command_table, Painted, FedOn, hosts, Rests, Onward, Going, Plain, Finished}
+use Rattle.units.specs.Turns.{FitCore, load_unit, table_unit, command_core, command_table, Painted, FedOn, hosts, Advanced, Rests, Onward, Going, Plain, Finished}
 
 pub fit_core : (ring : List ℕ) (w : ℕ) (m : Machine) → WellFormed ring w m → FitCore m.core w (length ring)
 fit_core ring w m h = record {
@@ -42,58 +43,48 @@ unit_idle ring m p = go (command_refusal ring m.core =? 0) refl
 
 module _ (ring : List ℕ) (w : ℕ) (m : Machine) (left : ℕ) where
   -- an engine with no budget left does nothing, nor does a stopped one, nor one of another sort
-  pub spent_rests : {Sort : Type 0} → left ≡ 0 → Rests Sort ring w m m.table m.frame left
-  spent_rests z = record { no_more = λ l. absurd (omega arith); table_kept = refl; frame_kept = refl }
+  pub spent_rests : {Sort : Type 0} → left ≡ 0 → Rests Sort ring w m m left
+  spent_rests z = record { no_more = λ l. absurd (omega arith); kept = refl }
 
-  pub stop_rests : {Sort : Type 0} → (m.core.stop ≡ 0 → ⊥) → Rests Sort ring w m m.table m.frame left
-  stop_rests z = record { no_more = λ l s. unfold possible in rw (ne_eqb _ _ z); table_kept = refl; frame_kept = refl }
+  pub stop_rests : {Sort : Type 0} → (m.core.stop ≡ 0 → ⊥) → Rests Sort ring w m m left
+  stop_rests z = record { no_more = λ l s. unfold possible in rw (ne_eqb _ _ z); kept = refl }
 
-  pub sort_rests : {b : Bool} → hosts m.core.place ≡ b → Rests (hosts m.core.place ≡ not b) ring w m m.table m.frame left
-  sort_rests e = record { no_more = λ l s. absurd (differ _ (sym e ∙ s)); table_kept = refl; frame_kept = refl }
+  pub sort_rests : {b : Bool} → hosts m.core.place ≡ b → Rests (hosts m.core.place ≡ not b) ring w m m left
+  sort_rests e = record { no_more = λ l s. absurd (differ _ (sym e ∙ s)); kept = refl }
     where
       differ : (b : Bool) → b ≡ not b → ⊥
       differ true p = not_both true refl p
       differ false p = not_both false (sym (sym p)) refl
 
-  -- the unit of an engine that draws nothing
-  module _ (h : WellFormed ring w m) (z : m.core.stop ≡ 0) (p : drawing m.core.place ≡ false) {table : List ℕ}
-      (tabled : table ≡ command_table ring m.core w m.table) where
-    pub command_rests : {Sort : Type 0} → None ≡ command_core ring m.core w → Rests Sort ring w m table m.frame left
-    unfolding command_core command_table
-    command_rests {Sort} e = go (ready ring m.core w) refl
-      where
-        go : (b : Bool) → ready ring m.core w ≡ b → Rests Sort ring w m table m.frame left
-        go true r = absurd (none-some _ (rw r at e))
-        go false r = record {
-          no_more = λ l s. idle_possible ring m.core w z p ∙ r;
-          table_kept = rw r at tabled;
-          frame_kept = refl;
-        }
+  -- the unit of an engine that draws nothing, or none
+  pub command_advanced : (Sort : Type 0) → WellFormed ring w m → m.core.stop ≡ 0 → drawing m.core.place ≡ false → 0 < left
+      → {taken : Bool} {d : Core} {table : List ℕ} → taken ≡ ready ring m.core w
+      → d ≡ command_core ring m.core w → table ≡ command_table ring m.core w m.table
+      → Advanced Sort ring w m (machine d table m.frame) left (then_some taken 1)
+  unfolding command_core command_table
+  command_advanced Sort h z p l e d t = rw (e, d, t) (go (ready ring c w) refl)
+    where
+      c : Core
+      c = m.core
 
-    pub command_onward : {d : Core} → 0 < left → Some d ≡ command_core ring m.core w → Onward ring w m (machine d table m.frame) left 1
-    unfolding command_core command_table
-    command_onward {d} l e = go (ready ring m.core w) refl
-      where
-        c : Core
-        c = m.core
+      u : unit ring m ≡ machine (load_unit ring c) (table_unit ring c m.table) m.frame
+      u = unit_idle ring m p
 
-        u : unit ring m ≡ machine (load_unit ring c) (table_unit ring c m.table) m.frame
-        u = unit_idle ring m p
-
-        go : (b : Bool) → ready ring c w ≡ b → Onward ring w m (machine d table m.frame) left 1
-        go true r =
-            let q : possible ring c w ≡ true = idle_possible ring c w z p ∙ r in
-            let x : left ≡ suc (left - 1) = omega arith in
-            rw (same_Some _ _ (rw r at e), rw r at tabled)
-            (record {
-              some = omega arith;
-              most = l;
-              wellformed = rw u at (wellformed_unit ring w m h q);
-              length_kept = refl;
-              same = λ k.
-                  ap (λ (y : ℕ). units ring w y k m) x ∙ units_step ring w (left - 1) k m q ∙ ap (units ring w (left - 1) (k + 1)) u;
-            })
-        go false r = absurd (none-some _ (sym (rw r at e)))
+      go : (b : Bool) → ready ring c w ≡ b
+          → Advanced Sort ring w m
+          (machine (if b then load_unit ring c else c) (if b then table_unit ring c m.table else m.table) m.frame) left (then_some b 1)
+      go true r =
+          let q : possible ring c w ≡ true = idle_possible ring c w z p ∙ r in
+          let x : left ≡ suc (left - 1) = omega arith in
+          record {
+            some = omega arith;
+            most = l;
+            wellformed = rw u at (wellformed_unit ring w m h q);
+            length_kept = refl;
+            same = λ k.
+                ap (λ (y : ℕ). units ring w y k m) x ∙ units_step ring w (left - 1) k m q ∙ ap (units ring w (left - 1) (k + 1)) u;
+          }
+      go false r = record { no_more = λ l s. idle_possible ring c w z p ∙ r; kept = refl }
 
   -- n + 1 units that come to a machine
   done_onward : WellFormed ring w m → (n : ℕ) (after : Machine) → suc n ≤ left
@@ -194,9 +185,9 @@ module _ {ring : List ℕ} {w : ℕ} {before : Machine} {budget : ℕ} where
           same = going.same ∙ next.same used ∙ ap (λ (x : ℕ). units ring w x (used + n) after) e;
         }
 
-    pub plain_rests : {table frame : List ℕ} → Rests (hosts now.core.place ≡ false) ring w now table frame (budget - used)
-        → Plain ring w before (machine now.core table frame) budget used
-    plain_rests r = rw (r.table_kept, r.frame_kept) (record { going = going; rests = λ l p. r.no_more (omega arith) p })
+    pub plain_rests : {after : Machine} → Rests (hosts now.core.place ≡ false) ring w now after (budget - used)
+        → Plain ring w before after budget used
+    plain_rests r = rw r.kept (record { going = going; rests = λ l p. r.no_more (omega arith) p })
 
     finished : budget ≤ used → Finished ring w before now budget used
     finished h =
@@ -211,10 +202,9 @@ module _ {ring : List ℕ} {w : ℕ} {before : Machine} {budget : ℕ} where
         → Plain ring w before after budget (used + n)
     plain_then going next = record { going = going_then going next.going; rests = λ l p. next.rests (omega arith) p }
 
-    pub finished_rests : Plain ring w before now budget used → {table frame : List ℕ}
-        → Rests (hosts now.core.place ≡ true) ring w now table frame (budget - used)
-        → Finished ring w before (machine now.core table frame) budget used
-    finished_rests plain r = rw (r.table_kept, r.frame_kept) (⊎_elim more (finished plain.going) (less_or_not used budget))
+    pub finished_rests : Plain ring w before now budget used → {after : Machine}
+        → Rests (hosts now.core.place ≡ true) ring w now after (budget - used) → Finished ring w before after budget used
+    finished_rests plain r = rw r.kept (⊎_elim more (finished plain.going) (less_or_not used budget))
       where
         rest : used < budget → (b : Bool) → hosts now.core.place ≡ b → possible ring now.core w ≡ false
         rest l true e = r.no_more (omega arith) e

@@ -10,7 +10,6 @@ use Rattle.model.specs.Registers.{format_code}
 use Rattle.model.specs.Host.{host_word, draw_host}
 use Rattle.model.specs.Unit.{Machine, pixels_drawn, header_at, counted_at, length_at, returns_at, loaded_at, drawn_rules, command_refusal, ready, stopped, accepted_core, table_after, pixel_count, drawn_core, fed_word, fed_core, possible, units, done}
 use Rattle.model.specs.Calls.{run_word}
-use Rattle.model.specs.Steps.{machine}
 use Rattle.model.specs.declared.Core.{Core}
 use Rattle.model.specs.declared.Feed.{Feed}
 use Rattle.model.specs.declared.Kind.TheVariants.{Table as TableKind, Data as DataKind}
@@ -21,7 +20,6 @@ use Rattle.model.specs.declared.Primitive.TheVariants.{Blt}
 use Rattle.model.specs.declared.RunWord.{RunWord}
 use Rattle.laws.specs.Order.{in_order, pixels}
 use Rattle.laws.specs.WellFormed.{WellFormed}
-use Rattle.units.specs.declared.Turn.{Turn}
 
 -- a core whose pointers lie in a ring of so many words
 pub record FitCore (c : Core) (write ringlength : ℕ) : Type 0 where
@@ -76,9 +74,9 @@ pub record Feedable (c : Core) (k : ℕ) (feed : Feed) : Type 0 where
   pub read_in : c.read < c.ringlength
   pub length_most : data_length feed.count ≤ c.ringlength
 
--- the core after the unit of an engine that draws nothing, if there is one, and the table after it
-unfoldable pub command_core : List ℕ → Core → ℕ → Option Core
-command_core ring c write = if ready ring c write then Some (load_unit ring c) else None
+-- the core after the unit of an engine that draws nothing, and the table after it; both as they were where the command waits
+unfoldable pub command_core : List ℕ → Core → ℕ → Core
+command_core ring c write = if ready ring c write then load_unit ring c else c
 
 unfoldable pub command_table : List ℕ → Core → ℕ → List ℕ → List ℕ
 command_table ring c write table = if ready ring c write then table_unit ring c table else table
@@ -108,10 +106,9 @@ hosts (Wanting k) = true
 hosts (Fed k feed) = true
 
 -- nothing is done: if some budget is left and the engine is of the sort that was asked for, no unit is possible
-pub record Rests (Sort : Type 0) (ring : List ℕ) (write : ℕ) (before : Machine) (table frame : List ℕ) (left : ℕ) : Type 0 where
+pub record Rests (Sort : Type 0) (ring : List ℕ) (write : ℕ) (before after : Machine) (left : ℕ) : Type 0 where
   pub no_more : 0 < left → Sort → possible ring before.core write ≡ false
-  pub table_kept : table ≡ before.table
-  pub frame_kept : frame ≡ before.frame
+  pub kept : after ≡ before
 
 -- some units are done, at most `left`, and what is left of the budget goes on from there
 pub record Onward (ring : List ℕ) (write : ℕ) (before after : Machine) (left used : ℕ) : Type 0 where
@@ -121,10 +118,10 @@ pub record Onward (ring : List ℕ) (write : ℕ) (before after : Machine) (left
   pub length_kept : length after.frame ≡ length before.frame
   pub same : (u : ℕ) → units ring write left u before ≡ units ring write (left - used) (u + used) after
 
--- no turn, and nothing is done; or one
-abbrev pub Advanced : (Sort : Type 0) → List ℕ → ℕ → (before : Machine) → (table frame : List ℕ) → (left : ℕ) → Option Turn → Type 0
-Advanced Sort ring write before table frame left None = Rests Sort ring write before table frame left
-Advanced Sort ring write before table frame left (Some turn) = Onward ring write before (machine turn.core table frame) left turn.used
+-- nothing is done; or so many units
+abbrev pub Advanced : (Sort : Type 0) → List ℕ → ℕ → (before after : Machine) → (left : ℕ) → Option ℕ → Type 0
+Advanced Sort ring write before after left None = Rests Sort ring write before after left
+Advanced Sort ring write before after left (Some used) = Onward ring write before after left used
 
 -- some of a budget's units are done, and the rest go on from there
 pub record Going (ring : List ℕ) (write : ℕ) (before now : Machine) (budget used : ℕ) : Type 0 where
@@ -139,10 +136,9 @@ pub record Plain (ring : List ℕ) (write : ℕ) (before now : Machine) (budget 
   pub rests : used < budget → hosts now.core.place ≡ false → possible ring now.core write ≡ false
 
 -- none by a BLT that takes data; or some, and then as many as could be without one
-abbrev pub Stepped : List ℕ → ℕ → (before : Machine) → (table frame : List ℕ) → (left : ℕ) → Option Turn → Type 0
-Stepped ring write before table frame left None = Rests (hosts before.core.place ≡ true) ring write before table frame left
-Stepped ring write before table frame left (Some turn) =
-    (0 < turn.used) × Plain ring write before (machine turn.core table frame) left turn.used
+abbrev pub Stepped : List ℕ → ℕ → (before after : Machine) → (left : ℕ) → Option ℕ → Type 0
+Stepped ring write before after left None = Rests (hosts before.core.place ≡ true) ring write before after left
+Stepped ring write before after left (Some used) = (0 < used) × Plain ring write before after left used
 
 -- all the units of a budget were done, or as many as could be
 pub record Finished (ring : List ℕ) (write : ℕ) (before after : Machine) (budget used : ℕ) : Type 0 where

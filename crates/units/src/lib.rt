@@ -1,6 +1,6 @@
-// Units of work: the load of a command, spans of pixels, and as many as a budget allows. The inner functions are handed the
-// core and the write pointer, not the state, and the lookup table is lent to them: no unit copies it.
-// What they are lent stands as parameters: `WellFormed` ties it to a core that goes in and comes back by value.
+// Units of work: the load of a command, spans of pixels, and as many as a budget allows. The inner functions are handed the write
+// pointer, not the state, and are lent the core and the lookup table, which change in place: no unit copies them. What they are lent
+// stands as parameters: `WellFormed` ties it together.
 #![tactic(auto)]
 
 ghost use Rattle.std.specs.Prelude.{◌≡◌, ◌+◌, ◌*◌, ◌<◌, ◌≤◌, true, false, ◌||◌, length, Some};
@@ -26,17 +26,14 @@ fn retire(completion: u32) -> u32
     completion.wrapping_add(1)
 }
 
-// The core that a refusal stops; a BLT that wants data is abandoned.
+// Stops the core for a refusal; a BLT that wants data is abandoned.
 #[tactic(auto, unfolding(model::specs::Unit::stopped))]
-fn halt(c: Core, refusal: Refusal) -> Core
-    ensures { result ≡ stopped c (number refusal) }
+fn halt(core: &mut Core, refusal: Refusal)
+    ensures { core.new ≡ stopped core.old (number refusal) }
 {
-    Core {
-        // a number: a state that comes in may hold any, and row 3 refuses it then
-        stop: u32::from(refusal),
-        place: Place::Idle,
-        ..c
-    }
+    // a number: a state that comes in may hold any, and row 3 refuses it then
+    core.stop = u32::from(refusal);
+    core.place = Place::Idle;
 }
 
 // ---- commands
@@ -52,52 +49,47 @@ fn first_place(primitive: Primitive, registers: [u32; REGISTERS]) -> Place
     }
 }
 
-// The core after the unit that loads the whole BLT or vector at the read pointer, or refuses it by judging.
-fn load(c: Core, ring: &[u32], header: u32, drawn: Option<Primitive>, next: usize) -> Core
-    requires { Loadable ring.now c header drawn next }
-    ensures { result ≡ load_unit ring.now c }
+// Loads the whole BLT or vector at the read pointer, or refuses it by judging.
+fn load(core: &mut Core, ring: &[u32], header: u32, drawn: Option<Primitive>, next: usize)
+    requires { Loadable ring.now core.old header drawn next }
+    ensures { core.new ≡ load_unit ring.now core.old }
 {
-    let registers = command::load(c.registers, ring, c.read, header);
+    let registers = command::load(core.registers, ring, core.read, header);
     match drawn {
-        None => Core {
-            registers,
-            read: next,
-            completion: retire(c.completion),
-            place: Place::Idle,
-            ..c
-        },
-        Some(primitive) => match judging::check(primitive, registers, c.framelength) {
-            Ok(()) => Core {
-                registers,
-                read: next,
-                place: first_place(primitive, registers),
-                ..c
-            },
-            Err(refusal) => halt(c, refusal),
+        None => {
+            core.registers = registers;
+            core.read = next;
+            core.completion = retire(core.completion);
+            core.place = Place::Idle;
+        }
+        Some(primitive) => match judging::check(primitive, registers, core.framelength) {
+            Ok(()) => {
+                core.registers = registers;
+                core.read = next;
+                core.place = first_place(primitive, registers);
+            }
+            Err(refusal) => halt(core, refusal),
         },
     }
 }
 
-// The core after the unit that loads the whole table load at the read pointer: its data are in the table then.
+// Loads the whole table load at the read pointer: its data are in the table then.
 fn fill(
-    c: Core,
+    core: &mut Core,
     table: &mut [u32; TABLE],
     ring: &[u32],
     header: u32,
     count: usize,
     next: usize,
-) -> Core
-    requires { Fillable ring.now c header count next }
-    ensures core { result ≡ load_unit ring.now c }
-    ensures table { table.new ≡ table_unit ring.now c table.old }
+)
+    requires { Fillable ring.now core.old header count next }
+    ensures core { core.new ≡ load_unit ring.now core.old }
+    ensures table { table.new ≡ table_unit ring.now core.old table.old }
 {
-    Core {
-        registers: command::load_table(c.registers, table, ring, c.read, header, count),
-        read: next,
-        completion: retire(c.completion),
-        place: Place::Idle,
-        ..c
-    }
+    core.registers = command::load_table(core.registers, table, ring, core.read, header, count);
+    core.read = next;
+    core.completion = retire(core.completion);
+    core.place = Place::Idle;
 }
 
 // How many pixels of the command in progress are drawn.
@@ -110,42 +102,33 @@ fn pixels_drawn(place: Place) -> usize
     }
 }
 
-// The core after the unit that accepts the whole data command at the read pointer.
-fn accept(c: Core, ring: &[u32], count: u32, returns: bool) -> Core
-    requires { Acceptable ring.now c count returns }
-    ensures { result ≡ load_unit ring.now c }
+// Accepts the whole data command at the read pointer.
+fn accept(core: &mut Core, ring: &[u32], count: u32, returns: bool)
+    requires { Acceptable ring.now core.old count returns }
+    ensures { core.new ≡ load_unit ring.now core.old }
 {
-    let k = pixels_drawn(c.place);
-    let before = host::word_of(c.registers, k) as u32;
+    let k = pixels_drawn(core.place);
+    let before = host::word_of(core.registers, k) as u32;
     let feed = Feed {
         before,
         count,
         returns,
     };
-    Core {
-        place: Place::Fed(k, feed),
-        ..c
-    }
+    core.place = Place::Fed(k, feed);
 }
 
 // ---- pixels
 
-// The core once k pixels of its command are drawn.
+// Moves the core on to where k pixels of its command are drawn.
 #[tactic(auto, unfolding(model::specs::Unit::drawn_core))]
-fn drawn(c: Core, primitive: Primitive, k: usize) -> Core
-    ensures { result ≡ drawn_core c primitive k }
+fn move_on(core: &mut Core, primitive: Primitive, k: usize)
+    ensures { core.new ≡ drawn_core core.old primitive k }
 {
-    if drawing::pixel_count(primitive, c.registers) <= k {
-        Core {
-            completion: retire(c.completion),
-            place: Place::Idle,
-            ..c
-        }
+    if drawing::pixel_count(primitive, core.registers) <= k {
+        core.completion = retire(core.completion);
+        core.place = Place::Idle;
     } else {
-        Core {
-            place: Place::Drawing(primitive, k),
-            ..c
-        }
+        core.place = Place::Drawing(primitive, k);
     }
 }
 
@@ -162,40 +145,30 @@ fn span(primitive: Primitive, registers: [u32; REGISTERS], k: usize, left: u32) 
     rest.min(left as usize) as u32
 }
 
-// The core once k pixels of a BLT are drawn that a data command feeds: the read pointer passes it with the last of them.
+// Moves the core on to where k pixels of a BLT are drawn that a data command feeds: the read pointer passes it with the last of them.
 #[tactic(auto, unfolding(model::specs::Unit::fed_core))]
-fn fed(c: Core, k: usize, feed: Feed) -> Core
-    requires { Feedable c k feed }
-    ensures { result ≡ fed_core c k feed }
+fn feed_on(core: &mut Core, k: usize, feed: Feed)
+    requires { Feedable core.old k feed }
+    ensures { core.new ≡ fed_core core.old k feed }
 {
     let count = feed.count as usize;
     let end = feed.before as usize + count;
-    let next = command::read_after(c.ringlength, c.read, 2 + count, feed.returns);
-    if drawing::pixel_count(Primitive::Blt, c.registers) <= k {
-        Core {
-            read: next,
-            completion: retire(c.completion),
-            place: Place::Idle,
-            ..c
-        }
-    } else if end <= host::word_of(c.registers, k) {
-        Core {
-            read: next,
-            place: Place::Wanting(k),
-            ..c
-        }
+    let next = command::read_after(core.ringlength, core.read, 2 + count, feed.returns);
+    if drawing::pixel_count(Primitive::Blt, core.registers) <= k {
+        core.read = next;
+        core.completion = retire(core.completion);
+        core.place = Place::Idle;
+    } else if end <= host::word_of(core.registers, k) {
+        core.read = next;
+        core.place = Place::Wanting(k);
     } else {
-        Core {
-            place: Place::Fed(k, feed),
-            ..c
-        }
+        core.place = Place::Fed(k, feed);
     }
 }
 
 // ---- units
 
-// Units done in one go, and the core after them: one command's load or refusal, or a span of pixels. (A count, not a flag: where
-// nothing is done there is no turn.)
+// Units done one after the other, and the core after them.
 #[derive(Clone, Copy)]
 pub struct Turn {
     pub core: Core,
@@ -216,81 +189,84 @@ fn is_drawing(place: Place) -> bool
     matches!(place, Place::Drawing(_, _) | Place::Fed(_, _))
 }
 
-// The core after the unit of an engine with nothing in progress: the command at the read pointer is loaded or refused; none where it
-// waits.
-fn take(c: Core, write: usize, ring: &[u32], table: &mut [u32; TABLE]) -> Option<Core>
-    requires fit { FitCore c write (length ring.now) }
-    requires idle { wants c.place ≡ false }
-    ensures core { result ≡ command_core ring.now c write }
-    ensures table { table.new ≡ command_table ring.now c write table.old }
+// Does the unit of an engine with nothing in progress: the command at the read pointer is loaded or refused. Nothing is done where it
+// waits. (A call of its own, so that the core stays where it is: inlined into the loop it is copied at each turn.)
+#[inline(never)]
+fn take(core: &mut Core, write: usize, ring: &[u32], table: &mut [u32; TABLE]) -> bool
+    requires fit { FitCore core.old write (length ring.now) }
+    requires idle { wants core.old.place ≡ false }
+    ensures taken { result ≡ ready ring.now core.old write }
+    ensures core { core.new ≡ command_core ring.now core.old write }
+    ensures table { table.new ≡ command_table ring.now core.old write table.old }
 {
-    let header = ring[c.read];
+    let header = ring[core.read];
     let head = Head {
-        size: c.ringlength,
-        read: c.read,
+        size: core.ringlength,
+        read: core.read,
         header,
-        counted: command::count_word(ring, c.read, Kind::Table),
+        counted: command::count_word(ring, core.read, Kind::Table),
     };
     match head.look(false, write) {
-        Seen::Refused(refusal) => Some(halt(c, refusal)),
-        Seen::Whole { drawn, next } => Some(load(c, ring, header, drawn, next)),
-        Seen::Table { count, next } => Some(fill(c, table, ring, header, count, next)),
+        Seen::Refused(refusal) => halt(core, refusal),
+        Seen::Whole { drawn, next } => load(core, ring, header, drawn, next),
+        Seen::Table { count, next } => fill(core, table, ring, header, count, next),
         // nobody wants data
-        Seen::Waits | Seen::Data { .. } => None,
+        Seen::Waits | Seen::Data { .. } => return false,
     }
+    true
 }
 
-// The core after the unit of a BLT that wants data: the data command at the read pointer is accepted, any other command is refused;
-// none where it waits.
-fn take_data(c: Core, write: usize, ring: &[u32]) -> Option<Core>
-    requires fit { Fit c write }
-    requires ring_is { length ring.now ≡ c.ringlength }
-    requires wanting { wants c.place ≡ true }
-    ensures { result ≡ command_core ring.now c write }
+// Does the unit of a BLT that wants data: the data command at the read pointer is accepted, any other command is refused. Nothing is
+// done where it waits.
+fn take_data(core: &mut Core, write: usize, ring: &[u32]) -> bool
+    requires fit { Fit core.old write }
+    requires ring_is { length ring.now ≡ core.old.ringlength }
+    requires wanting { wants core.old.place ≡ true }
+    ensures taken { result ≡ ready ring.now core.old write }
+    ensures core { core.new ≡ command_core ring.now core.old write }
 {
-    let header = ring[c.read];
+    let header = ring[core.read];
     let head = Head {
-        size: c.ringlength,
-        read: c.read,
+        size: core.ringlength,
+        read: core.read,
         header,
-        counted: command::count_word(ring, c.read, command::kind_of(header)),
+        counted: command::count_word(ring, core.read, command::kind_of(header)),
     };
     match head.look(true, write) {
-        Seen::Refused(refusal) => Some(halt(c, refusal)),
-        Seen::Data { count, returns } => Some(accept(c, ring, count, returns)),
+        Seen::Refused(refusal) => halt(core, refusal),
+        Seen::Data { count, returns } => accept(core, ring, count, returns),
         // no other command is accepted
-        Seen::Waits | Seen::Whole { .. } | Seen::Table { .. } => None,
+        Seen::Waits | Seen::Whole { .. } | Seen::Table { .. } => return false,
     }
+    true
 }
 
-// As many pixels of the command in progress as the budget allows.
+// Draws as many pixels of the command in progress as the budget allows.
 fn paint(
-    c: Core,
+    core: &mut Core,
     primitive: Primitive,
     k: usize,
     table: &[u32; TABLE],
     frame: &mut [u8],
     left: u32,
-) -> Turn
-    requires fit { FitPlace c primitive k }
-    requires frame_is { length frame.old ≡ c.framelength }
-    requires frame_small { c.framelength ≤ frame_most }
+) -> u32
+    requires fit { FitPlace core.old primitive k }
+    requires frame_is { length frame.old ≡ core.old.framelength }
+    requires frame_small { core.old.framelength ≤ frame_most }
     requires some_left { 0 < left }
-    ensures { Painted c primitive k table.now frame.old frame.new left result.core result.used }
+    ensures { Painted core.old primitive k table.now frame.old frame.new left core.new result }
 {
-    let used = span(primitive, c.registers, k, left);
+    let used = span(primitive, core.registers, k, left);
     let more = used as usize;
-    drawing::draw(frame, primitive, c.registers, table, k, more);
-    Turn {
-        core: drawn(c, primitive, k + more),
-        used,
-    }
+    drawing::draw(frame, primitive, core.registers, table, k, more);
+    move_on(core, primitive, k + more);
+    used
 }
 
-// As many pixels as a data command feeds and the budget allows: those of the row that is begun first. So `host::draw` has two
+// Draws as many pixels as a data command feeds and the budget allows: those of the row that is begun first. So `host::draw` has two
 // callers, and the compiler keeps it out of the way of other commands.
 fn feed_pixels(
-    c: Core,
+    core: &mut Core,
     write: usize,
     k: usize,
     feed: Feed,
@@ -298,63 +274,58 @@ fn feed_pixels(
     table: &[u32; TABLE],
     frame: &mut [u8],
     left: u32,
-) -> Turn
-    requires fit { FitFed c write k feed }
-    requires wellformed { WellFormed ring.now write (machine c table.now frame.old) }
+) -> u32
+    requires fit { FitFed core.old write k feed }
+    requires wellformed { WellFormed ring.now write (machine core.old table.now frame.old) }
     requires some_left { 0 < left }
-    ensures { FedOn ring.now c k feed table.now frame.old frame.new left result.core result.used }
+    ensures { FedOn ring.now core.old k feed table.now frame.old frame.new left core.new result }
 {
-    let registers = c.registers;
+    let registers = core.registers;
     let before = feed.before as usize;
     let end = before + feed.count as usize;
     let used = host::span(registers, k, end, left);
     let more = used as usize;
     let first = host::row_rest(registers, k, more);
-    host::draw(frame, ring, registers, table, c.read, before, k, first);
+    host::draw(frame, ring, registers, table, core.read, before, k, first);
     host::draw(
         frame,
         ring,
         registers,
         table,
-        c.read,
+        core.read,
         before,
         k + first,
         more - first,
     );
-    Turn {
-        core: fed(c, k + more, feed),
-        used,
-    }
+    feed_on(core, k + more, feed);
+    used
 }
 
-// Does the next units of an engine without a BLT that takes data, if the budget allows any and any can be done: a command's, or as
-// many pixels as the budget allows.
+// Does the next units of an engine without a BLT that takes data, if the budget allows any and any can be done: a command's load or
+// refusal, or a span of pixels. It answers how many; none, not 0, where nothing is done.
 fn advance(
-    c: Core,
+    core: &mut Core,
     write: usize,
     ring: &[u32],
     table: &mut [u32; TABLE],
     frame: &mut [u8],
     left: u32,
-) -> Option<Turn>
-    requires { WellFormed ring.now write (machine c table.old frame.old) }
-    ensures { Advanced (hosts c.place ≡ false) ring.now write (machine c table.old frame.old) table.new frame.new left result }
+) -> Option<u32>
+    requires { WellFormed ring.now write (machine core.old table.old frame.old) }
+    ensures { Advanced (hosts core.old.place ≡ false) ring.now write (machine core.old table.old frame.old) (machine core.new table.new frame.new) left result }
 {
-    if left == 0 || c.stop != 0 {
+    if left == 0 || core.stop != 0 {
         return None;
     }
-    match c.place {
-        Place::Idle => Some(Turn {
-            core: take(c, write, ring, table)?,
-            used: 1,
-        }),
-        Place::Drawing(primitive, k) => Some(paint(c, primitive, k, table, frame, left)),
+    match core.place {
+        Place::Idle => take(core, write, ring, table).then_some(1),
+        Place::Drawing(primitive, k) => Some(paint(core, primitive, k, table, frame, left)),
         Place::Wanting(_) | Place::Fed(_, _) => None,
     }
 }
 
 // As many such units as can be done one after the other, and as the budget allows. This loop does not know data commands: it is the one
-// that has to be fast. (No index is counted: each turn says how many units it was.)
+// that has to be fast. (No index is counted: `advance` says how many units it did.)
 fn do_plain(
     c: Core,
     write: usize,
@@ -368,9 +339,8 @@ fn do_plain(
 {
     let mut core = c;
     let mut used = 0;
-    while let Some(turn) = advance(core, write, ring, table, frame, budget - used) {
-        core = turn.core;
-        used += turn.used;
+    while let Some(more) = advance(&mut core, write, ring, table, frame, budget - used) {
+        used += more;
     }
     Turn { core, used }
 }
@@ -378,25 +348,22 @@ fn do_plain(
 // Does the next units of a BLT that takes data, if the budget allows any and any can be done: accepts a data command, or draws what
 // it feeds.
 fn advance_data(
-    c: Core,
+    core: &mut Core,
     write: usize,
     ring: &[u32],
     table: &[u32; TABLE],
     frame: &mut [u8],
     left: u32,
-) -> Option<Turn>
-    requires { WellFormed ring.now write (machine c table.now frame.old) }
-    ensures { Advanced (hosts c.place ≡ true) ring.now write (machine c table.now frame.old) table.now frame.new left result }
+) -> Option<u32>
+    requires { WellFormed ring.now write (machine core.old table.now frame.old) }
+    ensures { Advanced (hosts core.old.place ≡ true) ring.now write (machine core.old table.now frame.old) (machine core.new table.now frame.new) left result }
 {
-    if left == 0 || c.stop != 0 {
+    if left == 0 || core.stop != 0 {
         return None;
     }
-    match c.place {
-        Place::Wanting(_) => Some(Turn {
-            core: take_data(c, write, ring)?,
-            used: 1,
-        }),
-        Place::Fed(k, feed) => Some(feed_pixels(c, write, k, feed, ring, table, frame, left)),
+    match core.place {
+        Place::Wanting(_) => take_data(core, write, ring).then_some(1),
+        Place::Fed(k, feed) => Some(feed_pixels(core, write, k, feed, ring, table, frame, left)),
         Place::Idle | Place::Drawing(_, _) => None,
     }
 }
@@ -404,22 +371,20 @@ fn advance_data(
 // Does the next units of a BLT that takes data, and those after them up to the next such BLT, if the budget allows any and any can be
 // done.
 fn advance_both(
-    c: Core,
+    core: &mut Core,
     write: usize,
     ring: &[u32],
     table: &mut [u32; TABLE],
     frame: &mut [u8],
     left: u32,
-) -> Option<Turn>
-    requires { WellFormed ring.now write (machine c table.old frame.old) }
-    ensures { Stepped ring.now write (machine c table.old frame.old) table.new frame.new left result }
+) -> Option<u32>
+    requires { WellFormed ring.now write (machine core.old table.old frame.old) }
+    ensures { Stepped ring.now write (machine core.old table.old frame.old) (machine core.new table.new frame.new) left result }
 {
-    let data = advance_data(c, write, ring, table, frame, left)?;
-    let plain = do_plain(data.core, write, ring, table, frame, left - data.used);
-    Some(Turn {
-        core: plain.core,
-        used: data.used + plain.used,
-    })
+    let used = advance_data(core, write, ring, table, frame, left)?;
+    let plain = do_plain(*core, write, ring, table, frame, left - used);
+    *core = plain.core;
+    Some(used + plain.used)
 }
 
 // Does units until no further one can be done or the budget is used, from where none can be done without a BLT that takes data. (Beside
@@ -437,9 +402,8 @@ fn go_on(
 {
     let mut core = c;
     let mut used = 0;
-    while let Some(turn) = advance_both(core, write, ring, table, frame, budget - used) {
-        core = turn.core;
-        used += turn.used;
+    while let Some(more) = advance_both(&mut core, write, ring, table, frame, budget - used) {
+        used += more;
     }
     Turn { core, used }
 }

@@ -1,20 +1,23 @@
-use Rattle.units.proofs.Advances.{spent_rests, stop_rests, command_rests, command_onward, painted_onward}
+use Rattle.units.proofs.Advances.{spent_rests, stop_rests, command_advanced, painted_onward}
 use Rattle.model.specs.Steps.{machine}
 use Rattle.model.specs.Unit.{drawing}
-use Rattle.std.proofs.Common.{⊎_elim, ap, arith}
+use Rattle.std.proofs.Common.{ap, arith}
 use Rattle.units.proofs.advance.Goals as goal
+use Rattle.units.proofs.advance.Goals.{then-left-eq0-via-then-left-eq0, then-left-eq0-via-else-left-eq0+then-core-ne0}
 
 pub returns-then-left-eq0 : goal.returns-then-left-eq0
-returns-then-left-eq0 c = let m = machine c.args.c c.args.table.now c.args.frame.now in
-    ⊎_elim (λ z. spent_rests _ _ m _ z) (λ z. stop_rests _ _ m _ z.1) c.then-left-eq0.either
+returns-then-left-eq0 c = let m = machine c.args.core.now c.args.table.now c.args.frame.now in
+    elim c.then-left-eq0.branch [
+      | then-left-eq0-via-then-left-eq0 w ↦ spent_rests _ _ m _ w.if-left-eq0.true
+      | then-left-eq0-via-else-left-eq0+then-core-ne0 w ↦ stop_rests _ _ m _ w.if-core-ne0.true
+    ]
 
-pub returns-in_err-take-in-Idle : goal.returns-in_err-take-in-Idle
-returns-in_err-take-in-Idle c = let t = c.in_err-take-in-Idle.ensures in
-    rw c.from_residual.ensures (command_rests c.args.ring.now c.args.write (machine c.args.c c.args.table.now c.args.frame.now) c.args.left c.requires c.if-c-ne0.false (ap drawing c.in-Idle.is) t.table t.core)
-
-pub returns-in_ok-take-in-Idle : goal.returns-in_ok-take-in-Idle
-returns-in_ok-take-in-Idle c = let t = c.in_ok-take-in-Idle.ensures in
-    command_onward c.args.ring.now c.args.write (machine c.args.c c.args.table.now c.args.frame.now) c.args.left c.requires c.if-c-ne0.false (ap drawing c.in-Idle.is) t.table (omega (arith, c.if-left-eq0.false)) t.core
+pub returns-in-Idle : goal.returns-in-Idle
+returns-in-Idle c = let m = machine c.args.core.now c.args.table.now c.args.frame.now in
+    let t = c.take.ensures in
+    rw c.then_some.ensures
+    (command_advanced c.args.ring.now c.args.write m c.args.left _ c.requires c.if-core-ne0.false (ap drawing c.in-Idle.is) (omega (arith, c.if-left-eq0.false))
+    t.taken t.core t.table)
 
 pub returns-in-Drawing : goal.returns-in-Drawing
-returns-in-Drawing c = painted_onward c.args.ring.now c.args.write (machine c.args.c c.args.table.now c.args.frame.now) c.args.left c.requires c.in-Drawing.is c.paint.ensures
+returns-in-Drawing c = painted_onward c.args.ring.now c.args.write (machine c.args.core.now c.args.table.now c.args.frame.now) c.args.left c.requires c.in-Drawing.is c.paint.ensures

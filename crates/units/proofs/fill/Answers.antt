@@ -4,10 +4,10 @@ use Rattle.units.proofs.Loads.{load_fills, table_filled}
 use Rattle.units.proofs.fill.Goals as goal
 
 pub returns-clause-core : goal.returns-clause-core
-returns-clause-core c = let l = rw c.requires.header_is at c.load_table.ensures in
-    rw c.retire.ensures (load_fills _ _ l.registers c.requires)
+returns-clause-core c = let l = rw c.requires.header_is at c.load_table-core.ensures in
+    rw c.retire-core.ensures (load_fills _ _ l.registers c.requires)
 
 pub returns-clause-table : goal.returns-clause-table
 unfolding table_after
-returns-clause-table c = let l = rw c.requires.header_is at c.load_table.ensures in
+returns-clause-table c = let l = rw c.requires.header_is at c.load_table-core.ensures in
     l.table ∙ table_filled _ _ c.requires.accepted _

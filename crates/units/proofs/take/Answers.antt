@@ -11,7 +11,7 @@ use Rattle.model.proofs.Choice.{not_both}
 use Rattle.command.specs.declared.Seen.{Seen}
 use Rattle.command.specs.declared.Seen.TheVariants.{Waits as SeenWaits, Data as SeenData}
 use Rattle.command.specs.Look.{Sight, Waits, Data, numbered, look, SeenAt, look_at, look_idle, plain_table}
-use Rattle.std.proofs.Common.{◌≡◌, ℕ, Bool, ◌⊎◌, inl, inr, List, Some, false, sym, refl, ap, ◌∙◌, arith}
+use Rattle.std.proofs.Common.{◌≡◌, ℕ, Bool, ◌⊎◌, inl, inr, List, false, sym, refl, ap, ◌∙◌, arith}
 use Rattle.units.proofs.take.Goals as goal
 
 -- what is seen of the command at the read pointer
@@ -29,7 +29,7 @@ waits ring c write idle counts (inr (count, w, e)) q =
     absurd (not_both (wants c.place) (accepted_wanted ring c d.accepted (ap is_data d.kind_is)) idle)
 
 pub load-requires : goal.load-requires
-load-requires c = let s = seen c.args.ring.now c.args.c c.args.write c.requires.idle c.count_word.ensures c.in-Whole.ensures in
+load-requires c = let s = seen c.args.ring.now c.args.core.now c.args.write c.requires.idle c.count_word.ensures c.in-Whole.ensures in
     record {
       ring_least_holds = omega (arith, c.requires.fit.ring_least_holds, c.requires.fit.ring_is);
       read_in = omega (arith, c.requires.fit.read_in, c.requires.fit.ring_is);
@@ -42,13 +42,13 @@ load-requires c = let s = seen c.args.ring.now c.args.c c.args.write c.requires.
     }
 
 pub fill-requires : goal.fill-requires
-fill-requires c = let s = seen c.args.ring.now c.args.c c.args.write c.requires.idle c.count_word.ensures c.in-Table.ensures in
+fill-requires c = let s = seen c.args.ring.now c.args.core.now c.args.write c.requires.idle c.count_word.ensures c.in-Table.ensures in
     record {
       ring_least_holds = omega (arith, c.requires.fit.ring_least_holds, c.requires.fit.ring_is);
       read_in = omega (arith, c.requires.fit.read_in, c.requires.fit.ring_is);
       header_is = refl;
       kind_is = s.kind_is;
-      count_is = s.count_is ∙ ap (λ (k : Kind). data_count (count_word k c.args.ring.now c.args.c.read)) s.kind_is;
+      count_is = s.count_is ∙ ap (λ (k : Kind). data_count (count_word k c.args.ring.now c.args.core.now.read)) s.kind_is;
       count_most_holds = s.most;
       drawn_is = s.drawn_is;
       next_is = s.next_is;
@@ -57,26 +57,25 @@ fill-requires c = let s = seen c.args.ring.now c.args.c c.args.write c.requires.
 
 pub returns-in-Waits : goal.returns-in-Waits
 unfolding command_core command_table
-returns-in-Waits c = let r = waits c.args.ring.now c.args.c c.args.write c.requires.idle c.count_word.ensures c.in-Waits.is c.look.ensures in
-    record { core = rw r; table = rw r }
+returns-in-Waits c = rw (waits c.args.ring.now c.args.core.now c.args.write c.requires.idle c.count_word.ensures c.in-Waits.is c.look.ensures)
+    (record { taken = refl; core = refl; table = refl })
 
 pub returns-in-Refused : goal.returns-in-Refused
 unfolding command_core command_table
-returns-in-Refused c = let s = seen c.args.ring.now c.args.c c.args.write c.requires.idle c.count_word.ensures c.in-Refused.ensures in
-    record {
-      core = rw s.0 (ap (λ (d : Core). Some d) (c.halt.ensures ∙ refuses _ _ s.1 (λ z. omega (arith, s.2))));
-      table = rw s.0 (table_refused _ _ s.1 (λ z. omega (arith, s.2)) _);
-    }
+returns-in-Refused c = let s = seen c.args.ring.now c.args.core.now c.args.write c.requires.idle c.count_word.ensures c.in-Refused.ensures in
+    rw s.0
+    (record {
+      taken = refl;
+      core = c.halt.ensures ∙ refuses _ _ s.1 (λ z. omega (arith, s.2));
+      table = table_refused _ _ s.1 (λ z. omega (arith, s.2)) _;
+    })
 
 pub returns-in-Whole : goal.returns-in-Whole
 unfolding command_core command_table
-returns-in-Whole c = let s = seen c.args.ring.now c.args.c c.args.write c.requires.idle c.count_word.ensures c.in-Whole.ensures in
-    record {
-      core = rw s.is_ready_holds (ap (λ (d : Core). Some d) c.load.ensures);
-      table = rw s.is_ready_holds (table_stays _ _ (plain_table _ _ s.no_table_holds) _);
-    }
+returns-in-Whole c = let s = seen c.args.ring.now c.args.core.now c.args.write c.requires.idle c.count_word.ensures c.in-Whole.ensures in
+    rw s.is_ready_holds (record { taken = refl; core = c.load.ensures; table = table_stays _ _ (plain_table _ _ s.no_table_holds) _ })
 
 pub returns-in-Table : goal.returns-in-Table
 unfolding command_core command_table
-returns-in-Table c = let s = seen c.args.ring.now c.args.c c.args.write c.requires.idle c.count_word.ensures c.in-Table.ensures in
-    record { core = rw s.is_ready_holds (ap (λ (d : Core). Some d) c.fill.ensures.core); table = rw s.is_ready_holds c.fill.ensures.table }
+returns-in-Table c = let s = seen c.args.ring.now c.args.core.now c.args.write c.requires.idle c.count_word.ensures c.in-Table.ensures in
+    rw s.is_ready_holds (record { taken = refl; core = c.fill.ensures.core; table = c.fill.ensures.table })

@@ -11,7 +11,7 @@ use Rattle.model.proofs.Choice.{not_both}
 use Rattle.command.specs.declared.Seen.{Seen}
 use Rattle.command.specs.declared.Seen.TheVariants.{Waits as SeenWaits, Whole as SeenWhole, Table as SeenTable}
 use Rattle.command.specs.Look.{Sight, Waits, Whole, Table, numbered, look, SeenAt, look_at, taken_wanted}
-use Rattle.std.proofs.Common.{◌≡◌, ℕ, Option, ◌⊎◌, inl, inr, List, Some, true, false, sym, ap, ◌∙◌, arith}
+use Rattle.std.proofs.Common.{◌≡◌, ℕ, Option, ◌⊎◌, inl, inr, List, true, false, sym, refl, ap, ◌∙◌, arith}
 use Rattle.units.proofs.take_data.Goals as goal
 
 -- what is seen of the command at the read pointer
@@ -32,27 +32,28 @@ waits ring c write wanting counts (inr (inr (count, next, e))) q =
     absurd (not_both _ (taken_wanted ring c write (accepted_header ring c d.accepted) wanting) (ap is_data d.kind_is))
 
 pub accept-requires : goal.accept-requires
-accept-requires c = let s = seen c.args.ring.now c.args.c c.args.write c.requires.wanting (c.count_word.ensures ∙ ap (λ (k : Kind). count_word k c.args.ring.now c.args.c.read) c.kind_of.ensures) c.in-Data.ensures in
-    let f = wanting_fit c.args.c c.args.write c.requires.fit (pixels_drawn c.args.c.place) (wanting_is c.args.c.place c.requires.wanting) in
+accept-requires c = let s = seen c.args.ring.now c.args.core.now c.args.write c.requires.wanting (c.count_word.ensures ∙ ap (λ (k : Kind). count_word k c.args.ring.now c.args.core.now.read) c.kind_of.ensures) c.in-Data.ensures in
+    let f = wanting_fit c.args.core.now c.args.write c.requires.fit (pixels_drawn c.args.core.now.place) (wanting_is c.args.core.now.place c.requires.wanting) in
     record {
       kind_is = s.kind_is;
       count_is = s.count_is;
       returns_is = s.returns_is;
       accepted = s.accepted;
-      deep = fit_deep c.args.c (pixels_drawn c.args.c.place) f.pixel;
+      deep = fit_deep c.args.core.now (pixels_drawn c.args.core.now.place) f.pixel;
       within = f.pixel.within;
     }
 
 pub returns-in-Waits : goal.returns-in-Waits
 unfolding command_core
-returns-in-Waits c = rw (waits c.args.ring.now c.args.c c.args.write c.requires.wanting (c.count_word.ensures ∙ ap (λ (k : Kind). count_word k c.args.ring.now c.args.c.read) c.kind_of.ensures) c.in-Waits.is c.look.ensures)
+returns-in-Waits c = rw (waits c.args.ring.now c.args.core.now c.args.write c.requires.wanting (c.count_word.ensures ∙ ap (λ (k : Kind). count_word k c.args.ring.now c.args.core.now.read) c.kind_of.ensures) c.in-Waits.is c.look.ensures)
+    (record { taken = refl; core = refl })
 
 pub returns-in-Refused : goal.returns-in-Refused
 unfolding command_core
-returns-in-Refused c = let s = seen c.args.ring.now c.args.c c.args.write c.requires.wanting (c.count_word.ensures ∙ ap (λ (k : Kind). count_word k c.args.ring.now c.args.c.read) c.kind_of.ensures) c.in-Refused.ensures in
-    rw s.0 (ap (λ (d : Core). Some d) (c.halt.ensures ∙ refuses _ _ s.1 (λ z. omega (arith, s.2))))
+returns-in-Refused c = let s = seen c.args.ring.now c.args.core.now c.args.write c.requires.wanting (c.count_word.ensures ∙ ap (λ (k : Kind). count_word k c.args.ring.now c.args.core.now.read) c.kind_of.ensures) c.in-Refused.ensures in
+    rw s.0 (record { taken = refl; core = c.halt.ensures ∙ refuses _ _ s.1 (λ z. omega (arith, s.2)) })
 
 pub returns-in-Data : goal.returns-in-Data
 unfolding command_core
-returns-in-Data c = let s = seen c.args.ring.now c.args.c c.args.write c.requires.wanting (c.count_word.ensures ∙ ap (λ (k : Kind). count_word k c.args.ring.now c.args.c.read) c.kind_of.ensures) c.in-Data.ensures in
-    rw s.is_ready_holds (ap (λ (d : Core). Some d) c.accept.ensures)
+returns-in-Data c = let s = seen c.args.ring.now c.args.core.now c.args.write c.requires.wanting (c.count_word.ensures ∙ ap (λ (k : Kind). count_word k c.args.ring.now c.args.core.now.read) c.kind_of.ensures) c.in-Data.ensures in
+    rw s.is_ready_holds (record { taken = refl; core = c.accept.ensures })
