@@ -11,25 +11,32 @@ use std::marker::Model;
 
 // ---- text in a buffer
 
-// The most bytes of a text.
-const BUFFER_LENGTH: usize = 4096;
+// The most bytes of a text: few, since a text goes by value.
+const BUFFER_LENGTH: usize = 512;
 
-// A text in a buffer of its own, which holds every line.
-#[derive(Drop)]
+// A text in a buffer of its own, which holds every line. The bytes behind it are zeros, so that the text alone gives the buffer.
+#[derive(Clone, Copy)]
 pub struct Text {
     bytes: [u8; BUFFER_LENGTH],
     length: usize,
 }
 
 impl Model for Text {
-    ghost use Rattle.std.specs.Prelude.{ℕ, ◌≤◌, List, take};
-    ghost use Rattle.text.specs.Buffers.{buffer_length};
+    ghost use Rattle.std.specs.Prelude.{ℕ, List, take};
+    ghost use Rattle.text.specs.Buffers.{padded, text_length, IsPadded, padded_text, end_of_text};
 
     ghost Value = { List ℕ };
 
     ghost view = { λ text. take text.length text.bytes };
 
-    ghost invariant = { λ text. text.length ≤ buffer_length };
+    ghost invariant = { λ text. IsPadded text.length text.bytes };
+
+    ghost inverse = { λ text. record { bytes = padded text; length = text_length text } };
+
+    ghost inverse_ok = { λ text h i. record {
+      bytes = padded_text text.length text.bytes h i;
+      length = end_of_text text.length text.bytes h i;
+    } };
 }
 
 impl Text {

@@ -78,7 +78,7 @@ fn ask(call: Call, s: State, ring: &[u32], frame: &mut [u8]) -> Answer
 // ---- the steps
 
 // What a part of a trace comes to: the text that it writes, and whether the trace goes on, with the state then.
-#[derive(Drop)]
+#[derive(Clone, Copy)]
 pub struct Step {
     pub text: Text,
     pub flow: ControlFlow<State, State>,
