@@ -10,5 +10,6 @@ fn main(rt: HostRuntime) {
     let Ok(n) = files::read(&rt, &mut source, &mut memory) else {
         return;
     };
-    let _ = files::write(&rt, recording::replay_frame(&mut memory, n));
+    let k = recording::replay_frame(&mut memory, n);
+    let _ = files::write(&rt, &memory[..k]);
 }

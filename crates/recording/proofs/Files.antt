@@ -4,6 +4,7 @@ use Rattle.io.specs.Counts.{IsPrefixLen}
 use Rattle.model.proofs.Choice.{or_right}
 use Rattle.model.specs.Calls.{setup}
 use Rattle.model.specs.declared.Answer.{Answer}
+use Rattle.text.specs.Buffers.{Holds, holds}
 use Rattle.recording.specs.Parts.{part_length}
 use Rattle.recording.specs.Replay.{ring_limit, frame_limit, bad_lengths, is_refused, replay, replay_frame}
 use Rattle.recording.specs.Recording.{file_words, length_words, head_of, good_head, ring_of, bad_recording, Loaded, replayed, replayed_frame, size_of_frame, frame_bytes, good}
@@ -72,20 +73,19 @@ module _ (file ring memory : List ℕ) (head : Head) (l : Loaded file ring head)
   unfolding replayed_frame
   frame_is after e = e ∙ rw (l.ring_is, size, l.head_is)
 
-  -- and the part of frame memory that is written
-  pub written_is : (after rest : List ℕ) → length after ≡ length (take head.framelength memory) → after ≡ replayed_frame file
-      → take (size_of_frame head) (after ++ rest) ≡ frame_bytes file
+  -- and the buffer, in whose first part it was
+  pub frame_held : (after rest : List ℕ) → length after ≡ length (take head.framelength memory) → after ≡ replayed_frame file
+      → Holds (frame_bytes file) (after ++ rest) (size_of_frame head)
   unfolding frame_bytes
-  written_is after rest same is = go (is_refused (setup head.ringlength head.framelength)) refl
+  frame_held after rest same is = go (is_refused (setup head.ringlength head.framelength)) refl
     where
       go : (b : Bool) → is_refused (setup head.ringlength head.framelength) ≡ b
-          → take (size_of_frame head) (after ++ rest) ≡ frame_bytes file
-      go true e = rw (e, l.fine, rw l.head_is at e)
-      go false e = rw (e, l.fine, rw l.head_is at e) (take_at after rest head.framelength (same ∙ size) ∙ is)
+          → Holds (frame_bytes file) (after ++ rest) (size_of_frame head)
+      go true e = rw (e, l.fine, rw l.head_is at e) (holds (omega arith) refl)
+      go false e = rw (e, l.fine, rw l.head_is at e)
+          (holds (omega (arith, same, size, length-append after rest)) (take_at after rest head.framelength (same ∙ size) ∙ is))
 
-pub size_most : (head : Head) → size_of_frame head ≤ head.framelength
-size_most head = go (is_refused (setup head.ringlength head.framelength)) refl
-  where
-    go : (b : Bool) → is_refused (setup head.ringlength head.framelength) ≡ b → size_of_frame head ≤ head.framelength
-    go true e = rw e (omega arith)
-    go false e = rw e (omega arith)
+-- nothing of a bad recording
+pub bad_held : (file memory : List ℕ) → bad_recording file ≡ true → Holds (frame_bytes file) memory 0
+unfolding frame_bytes
+bad_held file memory e = rw e (holds (omega arith) refl)

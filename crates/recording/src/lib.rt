@@ -3,6 +3,7 @@
 
 ghost use Rattle.std.specs.Prelude.{◌≡◌, ◌+◌, ◌*◌, ◌≤◌, length, take, replicate};
 ghost use Rattle.io.specs.Counts.{IsPrefixLen};
+ghost use Rattle.text.specs.Buffers.{Holds};
 ghost use Rattle.recording.specs.Replay.{ring_limit, frame_limit, bad_lengths, is_refused, played, played_frame, replay, replay_frame};
 ghost use Rattle.recording.specs.Recording.{file_word, file_words, good_head, Loads, size_of_frame, frame_bytes, replay_text};
 
@@ -178,21 +179,21 @@ pub fn replay_text(memory: &mut [u8], n: usize) -> Text
     }
 }
 
-// Frame memory after a replay, in the first part of the same buffer.
-#[tactic(auto, using(crate::proofs::Files::frame_in, crate::proofs::Files::frame_is, crate::proofs::Files::written_is, crate::proofs::Files::size_most), unfolding(crate::specs::Recording::frame_bytes))]
-pub fn replay_frame(memory: &mut [u8], n: usize) -> &[u8]
+// Frame memory after a replay, from the start of the same buffer, and its length.
+#[tactic(auto, using(crate::proofs::Files::frame_in, crate::proofs::Files::bad_held))]
+pub fn replay_frame(memory: &mut [u8], n: usize) -> usize
     requires within { IsPrefixLen n memory.old }
     requires room { frame_limit ≤ length memory.old }
-    ensures { result.now ≡ frame_bytes (take n memory.old) }
+    ensures { Holds (frame_bytes (take n memory.old)) memory.new result }
 {
     let mut ring = ring_buffer();
     let Some(head) = load(&memory[..n], &mut ring) else {
-        return &[];
+        return 0;
     };
     play(
         head,
         &ring[..head.ringlength],
         &mut memory[..head.framelength],
     );
-    &memory[..frame_size(head)]
+    frame_size(head)
 }
