@@ -3,12 +3,13 @@
 #![tactic(auto)]
 
 ghost use Rattle.std.specs.Prelude.{true, ◌≡◌, length};
-ghost use Rattle.tracing.specs.Trace.{held, state_of, begin_of, Reached};
+ghost use Rattle.tracing.specs.Trace.{held, begin_of, Reached};
 
 use files::Said;
 use model::State;
 use std::io::Read;
 use std::ops::ControlFlow;
+use tracing::Step;
 
 fn empty_record() -> [u8; 12]
     ensures { 12 ≡ length result }
@@ -16,24 +17,26 @@ fn empty_record() -> [u8; 12]
     [0; 12]
 }
 
-// Reads a record, does it and writes its text: whether there is more to do, with the state then.
+// Reads a record, does it and writes its text: whether there is more to do. (It changes the state in place, since a state is
+// large to hand out.)
 fn do_record<R: Print + Eprint, I: Read>(
     rt: &R,
     source: &mut I,
-    s: State,
+    s: &mut State,
     ring: &mut [u32],
     frame: &mut [u8],
-) -> ControlFlow<State, State>
-    ensures { Reached (held s ring.old frame.old) (held (state_of result) ring.new frame.new) }
+) -> ControlFlow<()>
+    ensures { Reached (held s.old ring.old frame.old) (held s.new ring.new frame.new) }
 {
     let mut part = empty_record();
     let Ok(n) = files::read(rt, source, &mut part) else {
-        return ControlFlow::Break(s);
+        return ControlFlow::Break(());
     };
-    let step = tracing::next_step(&part[..n], s, ring, frame);
-    match files::write(rt, step.text.as_bytes()) {
-        Ok(()) => step.flow,
-        Err(Said) => ControlFlow::Break(step.state()),
+    let Step { text, state, flow } = tracing::next_step(&part[..n], *s, ring, frame);
+    *s = state;
+    match files::write(rt, text.as_bytes()) {
+        Ok(()) => flow,
+        Err(Said) => ControlFlow::Break(()),
     }
 }
 
@@ -52,9 +55,8 @@ fn records<R: Print + Eprint, I: Read>(
 {
     let mut t = s;
     for _turn in 0..u64::MAX {
-        match do_record(rt, source, t, ring, frame) {
-            ControlFlow::Continue(next) => t = next,
-            ControlFlow::Break(last) => return last,
+        if let ControlFlow::Break(()) = do_record(rt, source, &mut t, ring, frame) {
+            return t;
         }
     }
     t
@@ -84,8 +86,8 @@ fn go_on<R: Print + Eprint, I: Read>(rt: &R, source: &mut I, head: &[u8], s: Sta
 fn trace<R: Print + Eprint, I: Read>(rt: &R, source: &mut I, head: &[u8]) -> Result<(), Said> {
     let begin = tracing::first_step(head);
     files::write(rt, begin.text.as_bytes())?;
-    if let ControlFlow::Continue(state) = begin.flow {
-        go_on(rt, source, head, state);
+    if let ControlFlow::Continue(()) = begin.flow {
+        go_on(rt, source, head, begin.state);
     }
     Ok(())
 }

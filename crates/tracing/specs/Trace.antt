@@ -186,40 +186,36 @@ good_record part ringlength =
 abbrev pub good_begin : List ℕ → Option (ℕ × ℕ)
 good_begin head = if bad_begin head then None else Some (file_word head 0, file_word head 1)
 
--- whether a trace goes on, and the state with which it goes on or ends
-abbrev pub goes_on : ControlFlow State State → Bool
-goes_on (Continue s) = true
-goes_on (Break s) = false
-
-abbrev pub state_of : ControlFlow State State → State
-state_of (Continue s) = s
-state_of (Break s) = s
+-- whether a trace goes on
+abbrev pub goes_on : ControlFlow (Unit {0}) (Unit {0}) → Bool
+goes_on (Continue _) = true
+goes_on (Break _) = false
 
 -- the answer of a function that does a record, and what it leaves in ring and frame memory
 pub record Steps (x : Stepped) (r : Step) (ring frame : List ℕ) : Type 0 where
   pub more_is : goes_on r.flow ≡ x.more
-  pub held_is : held (state_of r.flow) ring frame ≡ x.held
+  pub held_is : held r.state ring frame ≡ x.held
   pub text_is : r.text ≡ x.text
 
 -- and of the one that does the setup: ring and frame memory are the caller's
 pub record Begins (x : Stepped) (r : Step) : Type 0 where
   pub more_is : goes_on r.flow ≡ x.more
-  pub state_is : state_of r.flow ≡ x.held.state
+  pub state_is : r.state ≡ x.held.state
   pub text_is : r.text ≡ x.text
 
 -- ---- laws
 
 module _ (head : List ℕ) (made : Answer) {text : List ℕ} where
   pub begins_bad : bad_begin head ≡ true → made ≡ setup 0 0 → text ≡ bad_line
-      → Begins (begin_of head) (record { text = text; flow = Break made.state })
+      → Begins (begin_of head) (record { text = text; state = made.state; flow = Break tt })
   unfolding begin_of
   begins_bad bad is h = rw bad (record { more_is = refl; state_is = ap (λ (a : Answer). a.state) is; text_is = h })
 
-  pub begins_good : {flow : ControlFlow State State} → bad_begin head ≡ false
+  pub begins_good : {flow : ControlFlow (Unit {0}) (Unit {0})} → bad_begin head ≡ false
       → made ≡ setup (file_word head 0) (file_word head 1) → text ≡ call_line 0 made → goes_on flow ≡ not (is_refused made)
-      → state_of flow ≡ made.state → Begins (begin_of head) (record { text = text; flow = flow })
+      → Begins (begin_of head) (record { text = text; state = made.state; flow = flow })
   unfolding begin_of
-  begins_good fine is h more state = rw (fine, ← is) (record { more_is = more; state_is = state; text_is = h })
+  begins_good fine is h more = rw (fine, ← is) (record { more_is = more; state_is = refl; text_is = h })
 
 pub whole_begin : (head : List ℕ) → bad_begin head ≡ false → 8 ≤ length head
 whole_begin head e = ltb-false (length head) 8 (neither (length head <? 8) _ e).0
@@ -276,13 +272,13 @@ whole_record part n e =
 
 module _ (part : List ℕ) (t : Held) where
   pub steps_last : bad_record part (length t.ring) ≡ true → {text : List ℕ} → text ≡ last_line part t.frame
-      → Steps (step_of part t) (record { text = text; flow = Break t.state }) t.ring t.frame
+      → Steps (step_of part t) (record { text = text; state = t.state; flow = Break tt }) t.ring t.frame
   unfolding step_of
   steps_last bad h = rw bad (record { more_is = refl; held_is = refl; text_is = h })
 
   module _ (fine : bad_record part (length t.ring) ≡ false) {op a : ℕ} (op-is : op ≡ file_word part 0) (a-is : a ≡ file_word part 1) where
     pub steps_store : op ≡ 0 → (b : ℕ) → b ≡ file_word part 2
-        → Steps (step_of part t) (record { text = []; flow = Continue t.state }) (set t.ring a b) t.frame
+        → Steps (step_of part t) (record { text = []; state = t.state; flow = Continue tt }) (set t.ring a b) t.frame
     unfolding step_of
     steps_store z b b-is = rw (fine, eq-eqb (file_word part 0) 0 (sym op-is ∙ z), a-is, b-is) (record {
       more_is = refl;
@@ -310,7 +306,7 @@ step_reached part t l = go (bad_record part (length t.ring)) (file_word part 0 =
         record { parts = part ∷ []; all_go = (omega arith, rw (ea, eb), tt); after_is = refl }
 
 pub steps_reached : (part : List ℕ) (t : Held) (r : Step) (ring frame : List ℕ) → length part ≤ 12
-    → Steps (step_of part t) r ring frame → Reached t (held (state_of r.flow) ring frame)
+    → Steps (step_of part t) r ring frame → Reached t (held r.state ring frame)
 steps_reached part t r ring frame l h = subst (Reached t) (sym h.held_is) (step_reached part t l)
 
 -- some parts after others

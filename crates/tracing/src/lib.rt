@@ -2,7 +2,7 @@
 #![tactic(auto)]
 
 ghost use Rattle.std.specs.Prelude.{◌≡◌};
-ghost use Rattle.tracing.specs.Trace.{asked, asked_frame, op_of, argument_of, good_begin, good_record, state_of, held, last_line, call_step, step_of, begin_of, Steps, Begins};
+ghost use Rattle.tracing.specs.Trace.{asked, asked_frame, op_of, argument_of, good_begin, good_record, held, last_line, call_step, step_of, begin_of, Steps, Begins};
 
 use model::{Answer, State};
 use std::ops::ControlFlow;
@@ -77,22 +77,13 @@ fn ask(call: Call, s: State, ring: &[u32], frame: &mut [u8]) -> Answer
 
 // ---- the steps
 
-// What a part of a trace comes to: the text that it writes, and whether the trace goes on, with the state then.
+// What a part of a trace comes to: the text that it writes, the state then, and whether the trace goes on. (The state stands
+// beside the flow, whose two cases would each take its room.)
 #[derive(Clone, Copy)]
 pub struct Step {
     pub text: Text,
-    pub flow: ControlFlow<State, State>,
-}
-
-impl Step {
-    // The state, whether the trace goes on or not.
-    pub fn state(&self) -> State
-        ensures { result ≡ state_of self.now.flow }
-    {
-        match self.flow {
-            ControlFlow::Continue(s) | ControlFlow::Break(s) => s,
-        }
-    }
+    pub state: State,
+    pub flow: ControlFlow<()>,
 }
 
 // The lengths of ring and frame memory: none where a trace has fewer than two words, or lengths that are too long.
@@ -118,16 +109,18 @@ pub fn first_step(head: &[u8]) -> Step
     let Some((ringlength, framelength)) = lengths_of(head) else {
         return Step {
             text: text::bad_line(),
-            flow: ControlFlow::Break(engine::setup(0, 0).state),
+            state: engine::setup(0, 0).state,
+            flow: ControlFlow::Break(()),
         };
     };
     let made = engine::setup(ringlength, framelength);
     Step {
         text: text::call_line(0, made),
+        state: made.state,
         flow: if recording::is_refused(made) {
-            ControlFlow::Break(made.state)
+            ControlFlow::Break(())
         } else {
-            ControlFlow::Continue(made.state)
+            ControlFlow::Continue(())
         },
     }
 }
@@ -150,7 +143,8 @@ fn call_step(call: Call, s: State, ring: &[u32], frame: &mut [u8]) -> Step
     let answer = ask(call, s, ring, frame);
     Step {
         text: text::call_line(u32::from(call), answer),
-        flow: ControlFlow::Continue(answer.state),
+        state: answer.state,
+        flow: ControlFlow::Continue(()),
     }
 }
 
@@ -161,13 +155,15 @@ pub fn next_step(part: &[u8], s: State, ring: &mut [u32], frame: &mut [u8]) -> S
     match record_of(part, ring.len()) {
         None => Step {
             text: last_line(part, frame),
-            flow: ControlFlow::Break(s),
+            state: s,
+            flow: ControlFlow::Break(()),
         },
         Some(Record::Store { at, word }) => {
             ring[at] = word;
             Step {
                 text: Text::new(),
-                flow: ControlFlow::Continue(s),
+                state: s,
+                flow: ControlFlow::Continue(()),
             }
         }
         Some(Record::Called(call)) => call_step(call, s, ring, frame),

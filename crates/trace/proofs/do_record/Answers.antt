@@ -6,11 +6,10 @@ pub returns-in-Ok-write : goal.returns-in-Ok-write
 returns-in-Ok-write g c =
     steps_reached _ _ _ _ _
     (omega (arith, length-take c.in-Ok.n c.read.new.buf, c.read.auto.buf, c.empty_record-part.ensures))
-    c.next_step-step.ensures
+    c.next_step-text.ensures
 
 pub returns-in-Err : goal.returns-in-Err
 returns-in-Err g c =
-    rw c.state.ensures
-    (steps_reached _ _ _ _ _
+    steps_reached _ _ _ _ _
     (omega (arith, length-take c.in-Ok.n c.read.new.buf, c.read.auto.buf, c.empty_record-part.ensures))
-    c.next_step-step.ensures)
+    c.next_step-text.ensures

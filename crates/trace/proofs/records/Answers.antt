@@ -9,5 +9,5 @@ pub loop-turn-preserved : goal.loop-turn-preserved
 loop-turn-preserved g c = (
   c.do_record.auto.ring ∙ c.loop-turn.invariant.0,
   c.do_record.auto.frame ∙ c.loop-turn.invariant.1,
-  reached_then _ _ _ c.loop-turn.invariant.2 c.in-Continue.ensures,
+  reached_then _ _ _ c.loop-turn.invariant.2 c.do_record.ensures,
 )

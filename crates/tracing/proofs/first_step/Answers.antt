@@ -14,4 +14,3 @@ returns c =
       | then-is_refused w ↦ rw (w.result-is, ← c.is_refused.ensures, w.if-is_refused.true)
       | else-is_refused w ↦ rw (w.result-is, ← c.is_refused.ensures, w.if-is_refused.false)
     ])
-    (elim c.if-is_refused.branch [ then-is_refused w ↦ rw w.result-is | else-is_refused w ↦ rw w.result-is ])

@@ -1,4 +1,4 @@
-use Rattle.std.proofs.Common.{ℕ, ◌+◌, ◌-◌, ◌≤◌, ◌≡◌, List, length, sym, ◌∙◌, ap, arith, length-append, length-take, length-drop}
+use Rattle.std.proofs.Common.{ℕ, ◌+◌, ◌-◌, ◌≤◌, ◌≡◌, List, length, sym, subst, ◌∙◌, ap, arith, length-append, length-take, length-drop}
 use Rattle.std.proofs.lemmas.List.{drop-drop, drop-replicate}
 use Rattle.std.proofs.lemmas.Slice.{drop-put_mid}
 use borrow.Rule.Slice.PartMut.{put_mid}
@@ -24,6 +24,6 @@ invariant_of-self c =
     let k = length c.args.bytes.now in
     let put : at + k - at ≡ k = omega arith in
     let here : length c.args.self.now ≡ at = ap length (sym c.self.view_is) ∙ end_of_text at c.self.inside.bytes c.self.invariant in
-    rw put
+    subst (λ (n : ℕ). IsPadded (at + k) (put_mid at n c.self.inside.bytes c.copy_from_slice.new.self)) (sym put)
     (put_padded at k c.self.inside.bytes c.copy_from_slice.new.self c.self.invariant (ap length (sym c.copy_from_slice.ensures.after))
     (omega (arith, here, c.requires)))
