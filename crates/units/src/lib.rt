@@ -190,8 +190,7 @@ fn is_drawing(place: Place) -> bool
 }
 
 // Does the unit of an engine with nothing in progress: the command at the read pointer is loaded or refused. Nothing is done where it
-// waits. (A call of its own, so that the core stays where it is: inlined into the loop it is copied at each turn.)
-#[inline(never)]
+// waits.
 fn take(core: &mut Core, write: usize, ring: &[u32], table: &mut [u32; TABLE]) -> bool
     requires fit { FitCore core.old write (length ring.now) }
     requires idle { wants core.old.place ≡ false }
