@@ -56,6 +56,14 @@ module _ (file : List ℕ) (head : Head) (fine : bad_recording file ≡ false) (
   pub frame_in : (memory : List ℕ) → frame_limit ≤ length memory → IsPrefixLen head.framelength memory
   frame_in memory room = counts head.framelength memory (rw head_is (omega (arith, (good file fine).frame_most_holds)))
 
+-- no more is written than there is
+pub size_most : (head : Head) → size_of_frame head ≤ head.framelength
+size_most head = go (is_refused (setup head.ringlength head.framelength)) refl
+  where
+    go : (b : Bool) → is_refused (setup head.ringlength head.framelength) ≡ b → size_of_frame head ≤ head.framelength
+    go true e = rw e (omega arith)
+    go false e = rw e (omega arith)
+
 -- a replay of what is loaded
 module _ (file ring memory : List ℕ) (head : Head) (l : Loaded file ring head) (room : frame_limit ≤ length memory) where
   size : length (take head.framelength memory) ≡ head.framelength
@@ -73,17 +81,22 @@ module _ (file ring memory : List ℕ) (head : Head) (l : Loaded file ring head)
   unfolding replayed_frame
   frame_is after e = e ∙ rw (l.ring_is, size, l.head_is)
 
-  -- and the buffer, in whose first part it was
-  pub frame_held : (after rest : List ℕ) → length after ≡ length (take head.framelength memory) → after ≡ replayed_frame file
-      → Holds (frame_bytes file) (after ++ rest) (size_of_frame head)
+  -- and the part of it that is written
+  pub written_is : (after rest : List ℕ) → length after ≡ length (take head.framelength memory) → after ≡ replayed_frame file
+      → take (size_of_frame head) (after ++ rest) ≡ frame_bytes file
   unfolding frame_bytes
-  frame_held after rest same is = go (is_refused (setup head.ringlength head.framelength)) refl
+  written_is after rest same is = go (is_refused (setup head.ringlength head.framelength)) refl
     where
       go : (b : Bool) → is_refused (setup head.ringlength head.framelength) ≡ b
-          → Holds (frame_bytes file) (after ++ rest) (size_of_frame head)
-      go true e = rw (e, l.fine, rw l.head_is at e) (holds (omega arith) refl)
-      go false e = rw (e, l.fine, rw l.head_is at e)
-          (holds (omega (arith, same, size, length-append after rest)) (take_at after rest head.framelength (same ∙ size) ∙ is))
+          → take (size_of_frame head) (after ++ rest) ≡ frame_bytes file
+      go true e = rw (e, l.fine, rw l.head_is at e)
+      go false e = rw (e, l.fine, rw l.head_is at e) (take_at after rest head.framelength (same ∙ size) ∙ is)
+
+  -- which the buffer holds
+  pub frame_held : (after rest : List ℕ) → length after ≡ length (take head.framelength memory) → after ≡ replayed_frame file
+      → Holds (frame_bytes file) (after ++ rest) (size_of_frame head)
+  frame_held after rest same is =
+      holds (omega (arith, same, size, size_most head, length-append after rest)) (written_is after rest same is)
 
 -- nothing of a bad recording
 pub bad_held : (file memory : List ℕ) → bad_recording file ≡ true → Holds (frame_bytes file) memory 0
